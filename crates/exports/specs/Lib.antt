@@ -1,0 +1,2 @@
+-- What the functions over a whole slice mean.
+pub mod Each

@@ -1,0 +1,7 @@
+-- What the laws on f64 speak of.
+pub mod Order
+pub mod Sign
+pub mod Within
+pub mod Total
+pub mod Units
+pub mod Rank

@@ -1,0 +1,3 @@
+-- What the laws on lengths speak of.
+pub mod Length
+pub mod Least

@@ -1,0 +1,52 @@
+-- `real::rounding::round_size` meets its contract, by the laws of `ShiftLaws`.
+use mathlib.Core.Path.{refl}
+use native.Mathlib.Nat.{lt-of-le-of-lt, lt-of-lt-of-le}
+use lib.Dec.{lit<, lit≤}
+use lib.Pow.{shr-le}
+use borrow.Author.Needs.{needs}
+use Rattle.real.proofs.ShiftLaws.{shift-fits, shifted-lt, round-of-whole, round-of-small, half-sum-lt, round-of-fraction}
+use Rattle.real.proofs.rounding.round_size.Statement.{statement}
+use Rattle.real.proofs.rounding.round_size.Tie as tie
+
+decompose-requires : tie.Need-decompose-requires
+decompose-requires c κs = search needs
+
+shl-result : tie.Need-shl-result
+shl-result c = shift-fits _ _ _ (c .before .decompose .ensures) 63 (lit≤ tt) (c .before .before .pre) (c .if1 .taken)
+
+returns : tie.Need-returns
+returns c = (
+  round-of-whole _ _ _ (c .before .decompose .ensures) 63 (lit≤ tt) (c .before .before .pre) (c .if1 .taken),
+  shifted-lt _ _ _ (c .before .decompose .ensures) 63 (lit≤ tt) (c .before .before .pre) (c .if1 .taken),
+)
+
+sub-down : tie.Need-sub-down
+sub-down c = search needs
+
+returns-2 : tie.Need-returns-2
+returns-2 c = (
+  round-of-small _ _ _ (c .before .before .decompose .ensures) _ refl (c .before .if1 .left) (c .if2 .taken),
+  lit< tt,
+)
+
+sub-half : tie.Need-sub-half
+sub-half c = search needs
+
+shl-half : tie.Need-shl-half
+shl-half c = search needs
+
+add-result : tie.Need-add-result
+add-result c =
+    record { fits = lt-of-lt-of-le (half-sum-lt _ _ _ (c .before .before .decompose .ensures) _ refl (c .before .if1 .left) (c .if2 .left)) (lit≤ tt) }
+
+shr-result : tie.Need-shr-result
+shr-result c = search needs
+
+returns-3 : tie.Need-returns-3
+returns-3 c = (
+  round-of-fraction _ _ _ (c .before .before .decompose .ensures) _ refl (c .before .if1 .left) (c .if2 .left),
+  lt-of-le-of-lt (shr-le _ _) (half-sum-lt _ _ _ (c .before .before .decompose .ensures) _ refl (c .before .if1 .left) (c .if2 .left)),
+)
+
+pub round-size-spec : {M : Type 1} → statement M
+round-size-spec = tie.close (tie.spec decompose-requires shl-result returns sub-down returns-2 sub-half shl-half add-result shr-result returns-3)

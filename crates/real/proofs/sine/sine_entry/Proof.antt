@@ -1,0 +1,30 @@
+-- `real::sine::sine_entry` meets its contract: the code's table is that of the definition.
+use mathlib.Core.Path.{ap, sym}
+use Prim.Native.Nat.{ℕ}
+use native.Mathlib.Nat.{min-eq-left, min-eq-right, le-of-lt}
+use lib.ListN.{getD}
+use borrow.Author.Needs.{needs}
+use Rattle.real.specs.SineTable.{sineTable}
+use Rattle.real.specs.Sine.{sineEntry}
+use Rattle.real.proofs.sine.sine_entry.Statement.{statement}
+use Rattle.real.proofs.sine.sine_entry.Tie as tie
+
+array-read-result : tie.Need-array-read-result
+array-read-result c = search needs
+
+returns : tie.Need-returns
+unfolding sineEntry sineTable
+returns c = ap (λ (i : ℕ). getD sineTable i 0) (sym (min-eq-right (le-of-lt (c .if1 .taken))))
+
+mul-result : tie.Need-mul-result
+mul-result c = search needs
+
+array-read-result-2 : tie.Need-array-read-result-2
+array-read-result-2 c = search needs
+
+returns-2 : tie.Need-returns-2
+unfolding sineEntry sineTable
+returns-2 c = ap (λ (i : ℕ). getD sineTable i 0) (sym (min-eq-left (c .if1 .left)))
+
+pub sine-entry-spec : {M : Type 1} → statement M
+sine-entry-spec = tie.close (tie.spec array-read-result returns mul-result array-read-result-2 returns-2)

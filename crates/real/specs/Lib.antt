@@ -1,0 +1,6 @@
+-- What the functions on floats mean.
+pub mod Bits
+pub mod Rounding
+pub mod Select
+pub mod Sine
+pub mod SineTable

@@ -1,0 +1,4 @@
+-- What the square root means: the definition that callers cite (Root), the statement to believe (Nearest), and the steps between (Whole).
+pub mod Root
+pub mod Nearest
+pub mod Whole

@@ -1,0 +1,93 @@
+//! The functions of `crates/exports` as Rust sees them. Nothing checks these declarations against the Rattle source, so they are few and
+//! plain: numbers pass as themselves, a slice as a pointer and a length.
+#![allow(dead_code)]
+
+mod c {
+    extern "C" {
+        pub fn gablemadder_sqrt(x: f64) -> f64;
+        pub fn gablemadder_sqrt_bits(b: u64) -> u64;
+        pub fn gablemadder_sqrt_each(values: *mut f64, len: usize);
+        pub fn gablemadder_round_i64(x: f64) -> i64;
+        pub fn gablemadder_ceil_usize(x: f64) -> usize;
+        pub fn gablemadder_min(a: f64, b: f64) -> f64;
+        pub fn gablemadder_max(a: f64, b: f64) -> f64;
+        pub fn gablemadder_abs(x: f64) -> f64;
+        pub fn gablemadder_sine_entry(tenths: u32) -> u64;
+        pub fn gablemadder_sine(tenths: u32) -> f64;
+        pub fn gablemadder_decimal(x: f64, places: u32, out: *mut u8, len: usize, written: *mut usize) -> u32;
+        pub fn gablemadder_put_bytes(out: *mut u8, len: usize, at: usize, s: *const u8, n: usize) -> usize;
+        pub fn gablemadder_put_number(out: *mut u8, len: usize, at: usize, n: u64) -> usize;
+        pub fn gablemadder_put_hex(out: *mut u8, len: usize, at: usize, bits: u64) -> usize;
+        pub fn gablemadder_put_thousandths(out: *mut u8, len: usize, at: usize, n: u64) -> usize;
+        pub fn gablemadder_put_decimal(out: *mut u8, len: usize, at: usize, x: f64, places: u32) -> usize;
+    }
+}
+
+pub fn sqrt(x: f64) -> f64 {
+    unsafe { c::gablemadder_sqrt(x) }
+}
+
+pub fn sqrt_bits(b: u64) -> u64 {
+    unsafe { c::gablemadder_sqrt_bits(b) }
+}
+
+pub fn sqrt_each(values: &mut [f64]) {
+    unsafe { c::gablemadder_sqrt_each(values.as_mut_ptr(), values.len()) }
+}
+
+pub fn round_i64(x: f64) -> i64 {
+    unsafe { c::gablemadder_round_i64(x) }
+}
+
+pub fn ceil_usize(x: f64) -> usize {
+    unsafe { c::gablemadder_ceil_usize(x) }
+}
+
+pub fn min(a: f64, b: f64) -> f64 {
+    unsafe { c::gablemadder_min(a, b) }
+}
+
+pub fn max(a: f64, b: f64) -> f64 {
+    unsafe { c::gablemadder_max(a, b) }
+}
+
+pub fn abs(x: f64) -> f64 {
+    unsafe { c::gablemadder_abs(x) }
+}
+
+pub fn sine_entry(tenths: u32) -> u64 {
+    unsafe { c::gablemadder_sine_entry(tenths) }
+}
+
+pub fn sine(tenths: u32) -> f64 {
+    unsafe { c::gablemadder_sine(tenths) }
+}
+
+/// The decimal text in the first bytes of `out`, and its length; or the refusal's number, 13.
+pub fn decimal(x: f64, places: u32, out: &mut [u8]) -> Result<usize, u32> {
+    let mut written = 0;
+    match unsafe { c::gablemadder_decimal(x, places, out.as_mut_ptr(), out.len(), &mut written) } {
+        0 => Ok(written),
+        refusal => Err(refusal),
+    }
+}
+
+pub fn put_bytes(out: &mut [u8], at: usize, s: &[u8]) -> usize {
+    unsafe { c::gablemadder_put_bytes(out.as_mut_ptr(), out.len(), at, s.as_ptr(), s.len()) }
+}
+
+pub fn put_number(out: &mut [u8], at: usize, n: u64) -> usize {
+    unsafe { c::gablemadder_put_number(out.as_mut_ptr(), out.len(), at, n) }
+}
+
+pub fn put_hex(out: &mut [u8], at: usize, bits: u64) -> usize {
+    unsafe { c::gablemadder_put_hex(out.as_mut_ptr(), out.len(), at, bits) }
+}
+
+pub fn put_thousandths(out: &mut [u8], at: usize, n: u64) -> usize {
+    unsafe { c::gablemadder_put_thousandths(out.as_mut_ptr(), out.len(), at, n) }
+}
+
+pub fn put_decimal(out: &mut [u8], at: usize, x: f64, places: u32) -> usize {
+    unsafe { c::gablemadder_put_decimal(out.as_mut_ptr(), out.len(), at, x, places) }
+}
