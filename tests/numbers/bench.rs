@@ -20,7 +20,7 @@ fn hardware(x: f64) -> f64 {
 
 /// Nanoseconds for each of n steps: the best of the rounds for each of the two.
 fn best(rounds: usize, n: usize, ours: &mut dyn FnMut(), peer: &mut dyn FnMut()) -> (f64, f64) {
-    let mut time = |f: &mut dyn FnMut()| {
+    let time = |f: &mut dyn FnMut()| {
         let start = Instant::now();
         f();
         start.elapsed().as_nanos() as f64 / n as f64

@@ -37,8 +37,8 @@ fn patterns() -> Vec<u64> {
 
 fn answer(bits: u64) -> String {
     let x = f64::from_bits(bits);
-    let root = if x.is_nan() || x < 0.0 { 0x7ff8_0000_0000_0000 } else { x.sqrt().to_bits() };
-    let mut line = format!("{root:016x}");
+    // as text: the compiler may take any NaN for any other
+    let mut line = if x.is_nan() || x < 0.0 { String::from("7ff8000000000000") } else { format!("{:016x}", x.sqrt().to_bits()) };
     for places in 0..4 {
         if x >= 0.0 && x < (1u64 << 60) as f64 {
             line += &format!(" {:.*}", places, x.abs());

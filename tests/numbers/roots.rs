@@ -9,13 +9,13 @@ fn check(tally: &mut Tally, bits: u64) {
     let root = gablemadder::sqrt(x);
     // by the operand: the compiler may take any NaN for any other in a result
     if x.is_nan() || x < 0.0 {
-        tally.check(got == 0x7ff8_0000_0000_0000, || format!("sqrt_bits({bits:016x}) is {got:016x}, and no NaN"));
-        tally.check(root.is_nan(), || format!("sqrt of {bits:016x} is {root:e}, and no NaN"));
+        let same = got == 0x7ff8_0000_0000_0000 && root.is_nan();
+        tally.check(same, || format!("sqrt of {bits:016x} is {got:016x} as bits and {root:e}, and no NaN"));
         return;
     }
     let want = x.sqrt().to_bits();
-    tally.check(got == want, || format!("sqrt_bits({bits:016x}) is {got:016x}, not {want:016x}"));
-    tally.check(root.to_bits() == want, || format!("sqrt of {bits:016x} is {:016x}, not {want:016x}", root.to_bits()));
+    let same = got == want && root.to_bits() == want;
+    tally.check(same, || format!("sqrt of {bits:016x} is {got:016x} as bits and {:016x}, not {want:016x}", root.to_bits()));
 }
 
 fn neighbours(tally: &mut Tally, bits: u64) {
@@ -49,7 +49,7 @@ pub fn run(scale: u64) -> Tally {
         neighbours(&mut tally, ((n * n) as f64).to_bits());
         check(&mut tally, n);
     }
-    for _ in 0..600_000 * scale {
+    for _ in 0..750_000 * scale {
         check(&mut tally, random.next());
         check(&mut tally, random.next() >> 1);
     }

@@ -1,2 +1,3 @@
--- The law of a loop that puts f of each element in its place.
+-- Laws behind the functions that are more than a call.
+pub mod Decimal
 pub mod Each

@@ -1,3 +1,4 @@
 // Each function that Rust or C may call. None has a condition: whatever is passed, the contract says what comes back.
 mod reals;
 mod roots;
+mod texts;

@@ -1,0 +1,2 @@
+-- The readings at the edge.
+pub mod Readings

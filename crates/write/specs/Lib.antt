@@ -1,0 +1,4 @@
+-- What the writers leave in the slice.
+pub mod Decimal
+pub mod Number
+pub mod Put
