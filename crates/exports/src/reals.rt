@@ -2,7 +2,7 @@
 ghost use mathlib.Core.Path.{_≡_};
 ghost use Rattle.real.specs.Rounding.{roundI64, ceilUsize};
 ghost use Rattle.real.specs.Select.{minOf, maxOf, absOf};
-ghost use Rattle.real.specs.Sine.{sineEntry, sineOf};
+ghost use Rattle.sine.specs.Sine.{sineEntry, sineOf};
 
 #[no_mangle]
 pub extern "C" fn gablemadder_round_i64(x: f64) -> i64
@@ -43,12 +43,12 @@ pub extern "C" fn gablemadder_abs(x: f64) -> f64
 pub extern "C" fn gablemadder_sine_entry(tenths: u32) -> u64
     ensures { λ r. ⌜ r ≡ sineEntry tenths ⌝ }
 {
-    real::sine::sine_entry(tenths)
+    sine::sine_entry(tenths)
 }
 
 #[no_mangle]
 pub extern "C" fn gablemadder_sine(tenths: u32) -> f64
     ensures { λ r. ⌜ r ≡ sineOf tenths ⌝ }
 {
-    real::sine::sine(tenths)
+    sine::sine(tenths)
 }

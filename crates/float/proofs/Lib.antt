@@ -19,6 +19,7 @@
 --   as-fractions            finite floats that are not negative are ordered as the fractions num / den
 --   zero-least, infinity-greatest, above-num, num-above
 -- Rounding: a fraction a / b rounded to f64
+--   value-cross, values-le, le-values   a float that equals a fraction
 --   round-within            at most C in size where a / b is, for a held C
 --   finite-between          what lies between two finite floats is finite
 --   finite-lt               a fraction of 2 ^ 1024 or more overflows

@@ -14,7 +14,7 @@ use lib.Ieee.Digits.{size-reaches}
 use lib.Ieee.Exact.{HasValue, round-exact, units-val}
 use lib.Ieee.Fits.{round-is}
 use lib.Ieee.Nearest.{closest}
-use lib.Ieee.Order.{round-mono, drop, kept, transfer}
+use lib.Ieee.Order.{round-mono, drop, kept, transfer, le-of-values}
 use lib.Ieee.Scale.{finite, grid, overflow}
 use lib.Ieee.Positive.{num, den, den-pos}
 use Rattle.float.specs.Sign.{plus-zero, NonNeg}
@@ -57,6 +57,10 @@ values-le x y a c b d v w h =
     let g = value-finite y false b d w in
     transfer a b c d (num x) (num y) (den x) (den y) (den-pos x) (den-pos y) (sym (value-cross x false a c v)) (sym (value-cross y false b d w))
     (le→≤ (as-fractions x y f g (plus-nonneg x f (value-sign x false a c v)) (plus-nonneg y g (value-sign y false b d w))) h)
+
+-- and back
+pub le-values : (x y : Float) (a c b d : ℕ) → HasValue x false a c → HasValue y false b d → 0 < c → 0 < d → a * d ≤ b * c → le x y ≡ true
+le-values x y a c b d v w C D h = is-true (le x y) (le-of-values x y a c b d C D v w h)
 
 -- ---- a rounded fraction that does not overflow is `grid` units
 pub round-value : (s : Bool) (a b : ℕ) → grid binary64 a b < overflow binary64 → HasValue (round binary64 s a b) s (grid binary64 a b) (2 ^ 1074)

@@ -72,12 +72,3 @@ from-power k false m e h =
     let l : T (le (power k) (fin false m e)) = subst T (sym h) tt in
     let c : 1 * 2 ^ k * down e ≤ m * up e * 1 = le→cross (power k) (fin false m e) tt (above-of-le (power k) (fin false m e) tt l) l in
     (refl, le-trans (le-of-eq (ap (λ (n : ℕ). n * down e) (sym (one-mul (2 ^ k))))) (le-trans c (le-of-eq (mul-one (m * up e)))))
-
--- ---- two values
--- two values that are not negative, by the fractions a / b and c / d that they equal
-pub values→le : (x y : Float) (a b c d : ℕ) → HasValue x false a b → HasValue y false c d → 0 < b → 0 < d → a * d ≤ c * b → le x y ≡ true
-values→le x y a b c d v w B D h = passed (le x y) (le-of-values x y a b c d B D v w h)
-  where
-    passed : (t : Bool) → T t → t ≡ true
-    passed true p = refl
-    passed false p = absurd p

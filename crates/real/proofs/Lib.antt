@@ -11,5 +11,3 @@ pub mod RoundingLaws
 pub mod SelectLaws
 -- what the shifts of round_i64 and ceil_usize compute
 pub mod ShiftLaws
--- the sine table's rules (`sine-rules`); the sine is exact (`sine-value`), from 0 to 1 and never falls (`sine-mono`)
-pub mod SineLaws

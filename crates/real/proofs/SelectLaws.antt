@@ -15,9 +15,10 @@ use lib.Ieee.Positive.{num, den}
 use borrow.Author.Tests.{eqb-true, eq-eqb}
 use Rattle.float.specs.Within.{Within, Beyond}
 use Rattle.float.proofs.Order.{lt-le, le-refl-number, not-lt-le}
+use Rattle.float.proofs.Rounding.{le-values}
 use Rattle.float.proofs.Within.{cond-within}
 use Rattle.real.specs.Select.{minOf, maxOf, absOf}
-use Rattle.real.proofs.CompareLaws.{zero-float, ne-self, zero-size, negative-sign, minus-zero, values→le}
+use Rattle.real.proofs.CompareLaws.{zero-float, ne-self, zero-size, negative-sign, minus-zero}
 
 -- ---- the choice between a and b by a test, for `min` and `max` alike
 module _ (a b : Float) (test : Bool) where
@@ -170,7 +171,7 @@ pub abs-not-negative : (x : Float) → isNan x ≡ false → le zero-float (absO
 unfolding absOf isNan le
 abs-not-negative nan h = sym h
 abs-not-negative (inf s) h = refl
-abs-not-negative (fin s m e) h = values→le zero-float (fin false m e) 0 1 (m * up e) (down e) (refl, refl) (refl, refl) (lit< tt) (down-pos e) (le-trans (le-of-eq (zero-mul (down e))) zero-le)
+abs-not-negative (fin s m e) h = le-values zero-float (fin false m e) 0 1 (m * up e) (down e) (refl, refl) (refl, refl) (lit< tt) (down-pos e) (le-trans (le-of-eq (zero-mul (down e))) zero-le)
 
 -- bounds on the size hold of both
 pub abs-within : (x : Float) (b : ℕ) → Within x b → Within (absOf x) b

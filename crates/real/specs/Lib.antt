@@ -2,5 +2,3 @@
 pub mod Bits
 pub mod Rounding
 pub mod Select
-pub mod Sine
-pub mod SineTable

@@ -1,6 +1,4 @@
-// What Rust's f64 has and Rattle lacks, and the sine table.
+// What Rust's f64 has and Rattle lacks.
 pub mod bits;
 pub mod rounding;
 pub mod select;
-pub mod sine;
-mod sine_table;

@@ -5,7 +5,7 @@ use Prim.Native.Nat.{ℕ, suc, _+_, _-_, _*_, _^_, _≤_, _<_, min}
 use lib.IntN.{pos}
 use lib.ListN.{length, getD}
 use lib.Ieee.{Float, binary64, div, ofInt, ofBits}
-use Rattle.real.specs.SineTable.{sineTable}
+use Rattle.sine.specs.Table.{sineTable}
 
 -- The table's entry for an angle of k tenths of a degree. An angle over 900 counts as 900.
 unfoldable pub sineEntry : ℕ → ℕ

@@ -1,7 +1,9 @@
 // The sine of an angle in tenths of a degree, from a table.
+mod table;
+
 ghost use mathlib.Core.Path.{_≡_};
-ghost use Rattle.real.specs.Sine.{sineEntry, sineOf};
-use crate::sine_table::SINE;
+ghost use Rattle.sine.specs.Sine.{sineEntry, sineOf};
+use table::SINE;
 
 // The entry of an angle. An angle over 900 counts as 900.
 pub fn sine_entry(tenths: u32) -> u64

@@ -1,13 +1,13 @@
--- `real::sine::sine_entry` meets its contract: the code's table is that of the definition.
+-- `sine::sine_entry` meets its contract: the code's table is that of the definition.
 use mathlib.Core.Path.{ap, sym}
 use Prim.Native.Nat.{ℕ}
 use native.Mathlib.Nat.{min-eq-left, min-eq-right, le-of-lt}
 use lib.ListN.{getD}
 use borrow.Author.Needs.{needs}
-use Rattle.real.specs.SineTable.{sineTable}
-use Rattle.real.specs.Sine.{sineEntry}
-use Rattle.real.proofs.sine.sine_entry.Statement.{statement}
-use Rattle.real.proofs.sine.sine_entry.Tie as tie
+use Rattle.sine.specs.Table.{sineTable}
+use Rattle.sine.specs.Sine.{sineEntry}
+use Rattle.sine.proofs.sine_entry.Statement.{statement}
+use Rattle.sine.proofs.sine_entry.Tie as tie
 
 array-read-result : tie.Need-array-read-result
 array-read-result c = search needs

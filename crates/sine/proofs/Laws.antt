@@ -13,9 +13,13 @@ use lib.Ieee.Back.{round-whole}
 use lib.Ieee.Exact.{HasValue, round-exact}
 use lib.Ieee.Fits.{and-l, and-r, down-pos}
 use lib.Ieee.Scale.{round-same}
-use Rattle.real.specs.SineTable.{sineTable}
-use Rattle.real.specs.Sine.{entry, squares, sumSine, Near, SineRules, sineEntry, sineOf}
-use Rattle.real.proofs.CompareLaws.{zero-float, power, values→le}
+use Rattle.float.proofs.Rounding.{le-values}
+use Rattle.sine.specs.Table.{sineTable}
+use Rattle.sine.specs.Sine.{entry, squares, sumSine, Near, SineRules, sineEntry, sineOf}
+
+-- 2 ^ k, as the library writes it
+abbrev power : ℕ → Float
+power k = fin false 1 (pos k)
 
 -- ---- a test of every number below n
 abbrev allBelow : (ℕ → Bool) → ℕ → Bool
@@ -130,17 +134,17 @@ sine-value k =
     (round-whole binary64 false (sineEntry k) (le-trans (sine-entry-at-most k) (lit≤ tt)))
 
 -- ---- from 0 to 1, and never falling
-pub sine-not-negative : (k : ℕ) → le zero-float (sineOf k) ≡ true
-sine-not-negative k = values→le zero-float (sineOf k) 0 1 (sineEntry k) (2 ^ 50) (refl, refl) (sine-value k) (lit< tt) (lit< tt) zero-le
+pub sine-not-negative : (k : ℕ) → le (fin false 0 (pos 0)) (sineOf k) ≡ true
+sine-not-negative k = le-values (fin false 0 (pos 0)) (sineOf k) 0 1 (sineEntry k) (2 ^ 50) (refl, refl) (sine-value k) (lit< tt) (lit< tt) zero-le
 
 pub sine-at-most-one : (k : ℕ) → le (sineOf k) (power 0) ≡ true
 sine-at-most-one k =
-    values→le (sineOf k) (power 0) (sineEntry k) (2 ^ 50) 1 1 (sine-value k) (refl, refl) (lit< tt) (lit< tt)
+    le-values (sineOf k) (power 0) (sineEntry k) (2 ^ 50) 1 1 (sine-value k) (refl, refl) (lit< tt) (lit< tt)
     (le-trans (le-of-eq (mul-one (sineEntry k))) (sine-entry-at-most k))
 
 pub sine-mono : (i j : ℕ) → i ≤ j → le (sineOf i) (sineOf j) ≡ true
 sine-mono i j h =
-    values→le (sineOf i) (sineOf j) (sineEntry i) (2 ^ 50) (sineEntry j) (2 ^ 50) (sine-value i) (sine-value j) (lit< tt) (lit< tt)
+    le-values (sineOf i) (sineOf j) (sineEntry i) (2 ^ 50) (sineEntry j) (2 ^ 50) (sine-value i) (sine-value j) (lit< tt) (lit< tt)
     (mul-le-mul-right (2 ^ 50) (sine-entry-mono i j h))
 
 -- an entry is a whole number that f64 counts without a gap

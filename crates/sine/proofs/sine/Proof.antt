@@ -1,14 +1,14 @@
--- `real::sine::sine` meets its contract: an entry is at most 2^50, so its cast to f64 loses nothing.
+-- `sine::sine` meets its contract: an entry is at most 2^50, so its cast to f64 loses nothing.
 use mathlib.Core.Path.{sym, ap, subst}
 use Prim.Native.Nat.{ℕ}
 use lib.Dec.{T}
 use lib.IntN.{pos}
 use lib.Ieee.{binary64, div, ofInt, ofBits, inFloat}
 use borrow.Author.Needs.{needs}
-use Rattle.real.specs.Sine.{sineOf}
-use Rattle.real.proofs.SineLaws.{sine-entry-cast}
-use Rattle.real.proofs.sine.sine.Statement.{statement}
-use Rattle.real.proofs.sine.sine.Tie as tie
+use Rattle.sine.specs.Sine.{sineOf}
+use Rattle.sine.proofs.Laws.{sine-entry-cast}
+use Rattle.sine.proofs.sine.Statement.{statement}
+use Rattle.sine.proofs.sine.Tie as tie
 
 sine-entry-requires : tie.Need-sine-entry-requires
 sine-entry-requires c κs = search needs

@@ -1,0 +1,3 @@
+-- What the sine table holds, and what its entries mean.
+pub mod Table
+pub mod Sine
