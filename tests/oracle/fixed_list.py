@@ -1,0 +1,127 @@
+#!/usr/bin/env python3
+"""The fixed list of the patched oracle's answers, for a program of the gate to replay.
+
+usage: tests/oracle/fixed_list.py make | check
+
+list/stdin holds the part files, each at most 16,384 bytes, as the program reads them: a u32 (little-endian), the length of what follows,
+then the file with each run of zero bytes as a zero and the run's length (1 to 255). list/stdout holds the answers one after the other,
+each a report or a refusal's line. `make` writes both again, byte by byte the same; `check` compares.
+The files are document 01's examples, the readings at the edge, and of the generator's files, smallest first, as many as it takes for each
+rule and severity, merged line, refusal, process and shape to stand in several. Refusal 9 takes a longer file, and 10 to 12 depend on
+what is lent: tests/oracle/examples.py has those.
+"""
+import collections
+import math
+import os
+import re
+import struct
+import subprocess
+import sys
+
+import examples
+from differences import OUT, frames, framed, run
+from parts import FDM, SHEET, SLA, SLS, bore, box, holed_plate, job, part
+
+HERE = os.path.dirname(os.path.abspath(__file__))
+FOLDER = os.path.join(HERE, "list")
+LONGEST = 16384
+FROM_GENERATOR, SEED = 15000, 20
+QUOTA = 4
+# what tells apart the texts of one rule
+KINDS = ["to machine", "to print", "micro drills", "punch poorly", "undersized", "gun drilling", "standard drills", "from an edge", "from a bend", "powder", "resin"]
+
+
+def around(x):
+    """x, and one f64 and two to each side."""
+    down, up = math.nextafter(x, -math.inf), math.nextafter(x, math.inf)
+    return [math.nextafter(down, -math.inf), down, x, up, math.nextafter(up, math.inf)]
+
+
+def edges():
+    """The readings at the edge, through the whole check."""
+    size = (20.0, 20.0)
+    for thickness in around(0.4) + around(0.8):
+        wall = box((0.0, 0.0, 0.0), size + (thickness,))
+        yield part(wall, job())
+        yield part(wall, job(flags=1, name=b"Zero", wall=0.0))
+    for length in around(4.0) + around(10.0):
+        yield part(bore(0.5, length), job())
+    for radius in around(0.5):
+        yield part(bore(radius, 1.0), job())
+        yield part(bore(radius, 1.0)[:20], job())
+    side = 1e-3
+    for height in around(1e-3):
+        hollow = box((0.0, 0.0, 0.0), (side, side, height), feature=3, inward=True)
+        yield part(box((-5.0, -5.0, -5.0), (5.0, 5.0, 5.0)) + hollow, job(process=SLS))
+    for layer in around(0.2):
+        yield part(box((0.0, 0.0, 0.0), (20.0, 0.2, 20.0)), job(process=FDM, layer=layer))
+        yield part(box((0.0, 0.0, 0.0), (20.0, 0.4, 20.0)), job(process=SLA, layer=layer))
+    for nozzle in around(0.4):
+        yield part(box((0.0, 0.0, 0.0), (0.4, 20.0, 20.0)), job(process=FDM, flags=2, nozzle=nozzle))
+
+
+def pairs():
+    """Two holes that merge into one line: the generator's are longer than a file of the list may be."""
+    sheet = job(process=SHEET, flags=9, ratio=1000, name=b"Steel", wall=0.8)
+    for y in (5.0, 6.0, 7.0, 8.0):
+        yield part(holed_plate([(2.5, y), (2.5, y + 8.0)]), sheet)
+    for radius, length in ((0.25, 3.0), (0.25, 6.0), (0.375, 4.0), (0.375, 9.0)):
+        yield part(bore(radius, length) + bore(radius, length, feature=3), job())
+
+
+def features(answer, shape):
+    """What an answer has that the list is to hold several of."""
+    lines = answer.decode().split("\n")
+    if lines[0].startswith("refused"):
+        return {lines[0]}
+    _, thickness, bends, height = lines[0].split()
+    found = {"shape " + shape, "thickness" if thickness != "-" else "", "bends" if bends != "0" else "", "height" if height != "-" else ""}
+    for line in lines[1:-1]:
+        severity, rule, count, _, text = line.split("|", 4)
+        kind = next((k for k in KINDS if k in text), "")
+        found |= {"%s %s %s" % (severity, rule, kind), "merged %s" % rule if int(count) > 1 else ""}
+    return found - {""}
+
+
+def chosen():
+    files = []
+    for _, data, options, _ in examples.cases():
+        if not options and len(data) <= LONGEST:
+            files.append(data)
+    files += [*edges(), *pairs()]
+    generate = [os.path.join(OUT, "generate"), str(FROM_GENERATOR), str(SEED)]
+    made = frames(subprocess.run(generate, capture_output=True, check=True).stdout)
+    names = subprocess.run([generate[0], "--names"] + generate[1:], capture_output=True, check=True, text=True).stdout.splitlines()
+    answers = run("patched", framed(made))
+    count = collections.Counter()
+    for i in sorted(range(len(made)), key=lambda i: (len(made[i]), i)):
+        found = features(answers[i], names[i].split("\t")[1])
+        if len(made[i]) <= LONGEST and any(count[f] < QUOTA for f in found):
+            files.append(made[i])
+            count.update(found)
+    return files
+
+
+def packed(data):
+    """Each run of zeros as a zero and its length."""
+    return re.sub(rb"\0{1,255}", lambda run: bytes([0, len(run.group())]), data)
+
+
+def main():
+    files = chosen()
+    answers = run("patched", framed(files))
+    written = {"stdin": framed([packed(f) for f in files]), "stdout": b"".join(answers)}
+    if sys.argv[1:] == ["make"]:
+        os.makedirs(FOLDER, exist_ok=True)
+        for name, data in written.items():
+            open(os.path.join(FOLDER, name), "wb").write(data)
+    elif sys.argv[1:] != ["check"]:
+        sys.exit(__doc__)
+    for name, data in written.items():
+        if open(os.path.join(FOLDER, name), "rb").read() != data:
+            sys.exit("fixed_list: list/%s is another" % name)
+    print("fixed list: %d part files, %d bytes, %d bytes of answers" % (len(files), len(written["stdin"]), len(written["stdout"])))
+
+
+if __name__ == "__main__":
+    main()

@@ -1,0 +1,98 @@
+//! The Rust's check behind the part file of document 01: the same reader, refusals and printed report for every build.
+//!
+//! usage: PROGRAM [--reals N] [--words N] [--rows N] [--report N] < part file > answer
+//!        PROGRAM --batch [..] < stream > stream     any number of part files, each after its length (u32, little-endian); so the answers
+//! The numbers are the sizes that a caller lends: f64 and u32 scratch, fault rows, report bytes. Without them there is enough.
+mod dfm;
+mod material;
+mod math;
+mod part;
+mod sine;
+mod solid;
+mod text;
+
+/// What dfm.rs imports by the name of its crate.
+mod anvil_kernel {
+    pub use crate::math::{v3, Vec3};
+    pub use crate::solid::{FaceId, Solid, SurfaceKind};
+}
+
+use std::cell::Cell;
+use std::io::{self, Read, Write};
+
+thread_local! {
+    static FAULTS: Cell<usize> = const { Cell::new(0) };
+}
+
+/// Called by `check_with` before it merges: how many faults there are.
+fn note_faults(count: usize) {
+    FAULTS.with(|c| c.set(count));
+}
+
+/// What the caller lends.
+struct Lent {
+    reals: usize,
+    words: usize,
+    rows: usize,
+    report: usize,
+}
+
+const MOST_FAULTS: usize = 2048;
+
+fn answer(bytes: &[u8], lent: &Lent) -> Result<String, u32> {
+    let file = part::read(bytes)?;
+    let (p, v) = (file.polygons, file.vertices);
+    if lent.reals < 16 * p + 8 * v + 2048 || lent.words < 8 * p + 8 * v + 1024 {
+        return Err(10);
+    }
+    note_faults(0);
+    let report = dfm::check_with(&file.body, file.material.as_ref(), file.process, &file.print);
+    let faults = FAULTS.with(Cell::get);
+    if faults > lent.rows || faults > MOST_FAULTS {
+        return Err(11);
+    }
+    let text = text::of_report(&report);
+    if text.len() > lent.report {
+        return Err(12);
+    }
+    Ok(text)
+}
+
+fn answer_text(bytes: &[u8], lent: &Lent) -> String {
+    answer(bytes, lent).unwrap_or_else(|number| format!("refused {number}\n"))
+}
+
+fn main() -> io::Result<()> {
+    let mut lent = Lent { reals: usize::MAX, words: usize::MAX, rows: usize::MAX, report: usize::MAX };
+    let mut batch = false;
+    let mut args = std::env::args().skip(1);
+    while let Some(arg) = args.next() {
+        let size = match arg.as_str() {
+            "--batch" => {
+                batch = true;
+                continue;
+            }
+            "--reals" => &mut lent.reals,
+            "--words" => &mut lent.words,
+            "--rows" => &mut lent.rows,
+            "--report" => &mut lent.report,
+            _ => panic!("unknown option {arg}"),
+        };
+        *size = args.next().expect("a number").parse().expect("a number");
+    }
+    let mut input = Vec::new();
+    io::stdin().read_to_end(&mut input)?;
+    let mut out = io::BufWriter::new(io::stdout().lock());
+    if !batch {
+        return out.write_all(answer_text(&input, &lent).as_bytes());
+    }
+    let mut rest = &input[..];
+    while !rest.is_empty() {
+        let n = u32::from_le_bytes(rest[..4].try_into().unwrap()) as usize;
+        let text = answer_text(&rest[4..4 + n], &lent);
+        out.write_all(&(text.len() as u32).to_le_bytes())?;
+        out.write_all(text.as_bytes())?;
+        rest = &rest[4 + n..];
+    }
+    out.flush()
+}
