@@ -27,6 +27,7 @@ const PRINTING: &[u32] = &[FDM, SLA, SLS];
 /// How many of 2,000 files are of each shape; large parts are slow, so they are rare.
 const SHAPES: &[(usize, &str, Maker)] = &[
     (240, "plate", Shape(plate::plates, &[CNC, CNC, CNC, SHEET, FDM, SLA, SLS])),
+    (20, "bore row", Shape(plate::rows, &[CNC, CNC, SHEET, SHEET, FDM, SLS])),
     (160, "pocket", Shape(plate::pockets, &[CNC, CNC, CNC, CNC, FDM, SLA])),
     (240, "bracket", Shape(sheet::brackets, &[SHEET, SHEET, SHEET, SHEET, SHEET, CNC, FDM])),
     (120, "hollow", Shape(hollow::hollows, &[SLA, SLS, SLA, SLS, FDM, CNC])),

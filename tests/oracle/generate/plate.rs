@@ -169,6 +169,21 @@ pub fn plates(d: &mut Draw, part: &mut Part) {
     plate(part, &slab(1, 0.0, thick, pieces), &xs, &ys, &cells);
 }
 
+/// A row of equal bores, as for a strip of threads: their faults merge.
+pub fn rows(d: &mut Draw, part: &mut Part) {
+    let count = d.from(4, 10);
+    let thick = d.size(0.5, 40.0);
+    let width = d.size(2.0, 20.0);
+    let xs = cuts(&vec![width; count]);
+    let ys = [0.0, d.size(2.0, 20.0)];
+    let radius = drill(d, thick);
+    let ring = circle(d, [0.0, 0.0, width, ys[1]], radius);
+    let first = if d.one_in(3) { Cell::Blind(ring, 0.9 * thick) } else { Cell::Through(ring) };
+    let cells: Vec<Cell> = xs[..count].iter().map(|x| shifted(&first, *x, 0.0)).collect();
+    let pieces = draw_pieces(d);
+    plate(part, &slab(1, 0.0, thick, pieces), &xs, &ys, &cells);
+}
+
 fn draw_cell(d: &mut Draw, rect: Rect, thick: f64) -> Cell {
     let radius = drill(d, thick);
     let ring = circle(d, rect, radius);
