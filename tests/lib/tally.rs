@@ -5,6 +5,8 @@
 pub struct Tally {
     pub compared: u64,
     pub different: u64,
+    /// Of those compared, the ones with no counterpart in Rust: a refusal, or a NaN whose pattern document 01 names.
+    pub by_rule: u64,
 }
 
 impl Tally {
@@ -17,5 +19,11 @@ impl Tally {
                 println!("difference: {}", what());
             }
         }
+    }
+
+    #[inline]
+    pub fn check_rule(&mut self, same: bool, what: impl FnOnce() -> String) {
+        self.by_rule += 1;
+        self.check(same, what);
     }
 }

@@ -27,7 +27,7 @@ impl Compare {
     fn refused(&mut self, x: f64, places: u32, room: usize) {
         let mut out = self.fill;
         let got = gablemadder::decimal(x, places, &mut out[..room]);
-        self.tally.check(got == Err(13) && out == self.fill, || format!("{x:e} to {places} places in {room} bytes is not refused: {got:?}"));
+        self.tally.check_rule(got == Err(13) && out == self.fill, || format!("{x:e} to {places} places in {room} bytes is not refused: {got:?}"));
     }
 
     fn number(&mut self, x: f64, places: usize) {
@@ -70,7 +70,7 @@ pub fn run(scale: u64) -> Tally {
         compare.refused(1.5, places, ROOM);
     }
     compare.refused(1.5, u32::MAX, ROOM);
-    for _ in 0..16_000 * scale {
+    for _ in 0..18_000 * scale {
         for places in 0..4usize {
             let ten = 10u64.pow(places as u32) as f64;
             let length = random.float(20, 14);

@@ -10,7 +10,7 @@ fn check(tally: &mut Tally, bits: u64) {
     // by the operand: the compiler may take any NaN for any other in a result
     if x.is_nan() || x < 0.0 {
         let same = got == 0x7ff8_0000_0000_0000 && root.is_nan();
-        tally.check(same, || format!("sqrt of {bits:016x} is {got:016x} as bits and {root:e}, and no NaN"));
+        tally.check_rule(same, || format!("sqrt of {bits:016x} is {got:016x} as bits and {root:e}, and no NaN"));
         return;
     }
     let want = x.sqrt().to_bits();
@@ -49,7 +49,7 @@ pub fn run(scale: u64) -> Tally {
         neighbours(&mut tally, ((n * n) as f64).to_bits());
         check(&mut tally, n);
     }
-    for _ in 0..750_000 * scale {
+    for _ in 0..1_100_000 * scale {
         check(&mut tally, random.next());
         check(&mut tally, random.next() >> 1);
     }

@@ -25,7 +25,11 @@ fn main() {
     let mut line = String::from("numbers:");
     for (name, handle) in running {
         let tally = handle.join().expect("a test thread failed");
-        line += &format!(" {} {},", tally.compared, name);
+        line += &format!(" {} {} as Rust's", tally.compared - tally.by_rule, name);
+        if tally.by_rule > 0 {
+            line += &format!(" and {} by rule", tally.by_rule);
+        }
+        line += ",";
         different += tally.different;
     }
     println!("{line} {different} differences");

@@ -6,7 +6,7 @@ import struct
 import subprocess
 import sys
 
-from parts import SHEET, SLS, box, job, part, plate, trailer
+from parts import SHEET, SLS, bore, box, job, part, plate, trailer
 
 HERE = os.path.dirname(os.path.abspath(__file__))
 PROGRAMS = [os.path.join(HERE, "..", "..", "target", "tests", "oracle", name) for name in ("patched", "unpatched")]
@@ -74,10 +74,39 @@ def cases():
     yield "1 byte", thin, ["--report", "1"], 12
     yield "a byte too few", thin, ["--report", str(len(PLATE) - 1)], 12
     yield "just long enough", thin, ["--report", str(len(PLATE))], PLATE
-    # readings at the edge: a wall of 0.4 is a Warning, the next f64 below an Error; 0.8 gives none
-    wall = lambda t: part(box((0.0, 0.0, 0.0), (20.0, 20.0, t)), job())
+    # the readings at the edge that the whole check shows: what the first finding's line starts with
+    wall = lambda t, **kw: part(box((0.0, 0.0, 0.0), (20.0, 20.0, t)), job(**kw))
+    below = lambda x: math.nextafter(x, 0.0)
+    above = lambda x: math.nextafter(x, math.inf)
+    yield "wall of 0.4", wall(0.4), [], ("Warning|Thin wall|",)
+    yield "wall below 0.4", wall(below(0.4)), [], ("Error|Thin wall|",)
     yield "wall of 0.8", wall(0.8), [], NONE
-    yield "wall below 0.8", wall(0.79), [], None
+    yield "wall below 0.8", wall(below(0.8)), [], ("Warning|Thin wall|",)
+    yield "material min_wall 0, 0.8", wall(0.8, flags=1, name=b"Zero"), [], NONE
+    yield "material min_wall 0, below", wall(below(0.8), flags=1, name=b"Zero"), [], ("Warning|Thin wall|",)
+    yield "hole of 4 diameters", part(bore(0.5, 4.0), job()), [], NONE
+    yield "a little deeper", part(bore(0.5, above(4.0)), job()), [], ("Note|Deep hole|",)
+    yield "hole of 10 diameters", part(bore(0.5, 10.0), job()), [], ("Note|Deep hole|",)
+    yield "a little deeper than 10", part(bore(0.5, above(10.0)), job()), [], ("Warning|Deep hole|",)
+    yield "hole of 1.0 mm", part(bore(0.5, 1.0), job()), [], NONE
+    yield "a smaller hole", part(bore(below(0.5), 1.0), job()), [], ("Warning|Small hole|",)
+    yield "inside radius 0.5", part(bore(0.5, 1.0)[:20], job()), [], NONE
+    yield "a smaller radius", part(bore(below(0.5), 1.0)[:20], job()), [], ("Warning|Tight inside radius|",)
+    hollow = lambda h: part(
+        box((-5.0, -5.0, -5.0), (5.0, 5.0, 5.0)) + box((0.0, 0.0, 0.0), (1e-3, 1e-3, h), feature=3, inward=True), job(process=SLS)
+    )
+    yield "hollow of 1e-9", hollow(1e-3), [], ()
+    yield "a larger hollow", hollow(above(1e-3)), [], ("Error|Enclosed hollow|",)
+
+
+def is_as_expected(got, want):
+    """A text or a refusal's number: just that; None: no refusal; a tuple: the starts of the lines after the first, and no others."""
+    if want is None:
+        return not got.startswith("refused")
+    if isinstance(want, tuple):
+        lines = got.split("\n")[1:-1]
+        return len(lines) == len(want) and all(line.startswith(w) for line, w in zip(lines, want))
+    return got == ("refused %d\n" % want if isinstance(want, int) else want)
 
 
 def main():
@@ -85,10 +114,8 @@ def main():
     for name, data, options, want in cases():
         for program in PROGRAMS:
             got = subprocess.run([program] + options, input=data, capture_output=True, check=True).stdout.decode()
-            expected = "refused %d\n" % want if isinstance(want, int) else want
-            fine = not got.startswith("refused") if want is None else got == expected
             count += 1
-            if not fine:
+            if not is_as_expected(got, want):
                 wrong += 1
                 print("%s, %s: %r" % (os.path.basename(program), name, got))
     print("examples: %d answers, %d wrong" % (count, wrong))

@@ -27,6 +27,8 @@ FOLDER = os.path.join(HERE, "list")
 LONGEST = 16384
 FROM_GENERATOR, SEED = 15000, 20
 QUOTA = 4
+# 25 texts of rules by severity, 14 rules that merge, refusals 1 to 8
+KNOWN = 47
 # what tells apart the texts of one rule
 KINDS = ["to machine", "to print", "micro drills", "punch poorly", "undersized", "gun drilling", "standard drills", "from an edge", "from a bend", "powder", "resin"]
 
@@ -117,10 +119,16 @@ def main():
             open(os.path.join(FOLDER, name), "wb").write(data)
     elif sys.argv[1:] != ["check"]:
         sys.exit(__doc__)
+    count = collections.Counter()
+    for answer in answers:
+        count.update(f for f in features(answer, "") if f.split()[0] in ("Error", "Warning", "Note", "merged", "refused"))
+    least = min(count.values())
+    if least < 3 or len(count) < KNOWN:
+        sys.exit("fixed_list: %d rules, merged lines and refusals, the rarest %d times" % (len(count), least))
     for name, data in written.items():
         if open(os.path.join(FOLDER, name), "rb").read() != data:
             sys.exit("fixed_list: list/%s is another" % name)
-    print("fixed list: %d part files, %d bytes, %d bytes of answers" % (len(files), len(written["stdin"]), len(written["stdout"])))
+    print("fixed list: %d part files, %d bytes, %d bytes of answers; %d rules, merged lines and refusals, each at least %d times" % (len(files), len(written["stdin"]), len(written["stdout"]), len(count), least))
 
 
 if __name__ == "__main__":

@@ -22,7 +22,7 @@ fn first_step(s: f64, a: f64) -> f64 {
     a * (t + 3.000928682960215 * s) / (3.000928788012839 * t + s)
 }
 
-// Halley's step as a correction of g, which keeps its own rounding errors below a unit of the last digit.
+// Halley's step again, written as a correction of g so that its own rounding errors are small.
 fn second_step(s: f64, g: f64) -> f64 {
     let t = g * g;
     g + (g + g) * (s - t) / (3.0 * t + s)
