@@ -20,6 +20,7 @@ mod c {
         pub fn gablemadder_put_hex(out: *mut u8, len: usize, at: usize, bits: u64) -> usize;
         pub fn gablemadder_put_thousandths(out: *mut u8, len: usize, at: usize, n: u64) -> usize;
         pub fn gablemadder_put_decimal(out: *mut u8, len: usize, at: usize, x: f64, places: u32) -> usize;
+        pub fn gablemadder_part_verdict(file: *const u8, len: usize) -> u32;
     }
 }
 
@@ -90,4 +91,9 @@ pub fn put_thousandths(out: &mut [u8], at: usize, n: u64) -> usize {
 
 pub fn put_decimal(out: &mut [u8], at: usize, x: f64, places: u32) -> usize {
     unsafe { c::gablemadder_put_decimal(out.as_mut_ptr(), out.len(), at, x, places) }
+}
+
+/// The refusal from 1 to 7 that turns a part file back, 0 for none.
+pub fn part_verdict(file: &[u8]) -> u32 {
+    unsafe { c::gablemadder_part_verdict(file.as_ptr(), file.len()) }
 }

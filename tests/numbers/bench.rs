@@ -1,14 +1,16 @@
 //! Times of the numbers beside the hardware's root and `format!`, as ratios from one run: the best of many rounds each, taken in turn.
+#[path = "../lib/best.rs"]
+mod best;
 #[path = "../lib/gablemadder.rs"]
 mod gablemadder;
 #[path = "../lib/random.rs"]
 mod random;
 
+use best::best;
 use random::Random;
 use std::arch::asm;
 use std::fmt::Write;
 use std::hint::black_box;
-use std::time::Instant;
 
 /// The hardware's root of one number, as an instruction, so that the compiler does not take two at a time.
 #[inline(always)]
@@ -16,21 +18,6 @@ fn hardware(x: f64) -> f64 {
     let mut r = x;
     unsafe { asm!("sqrtsd {0}, {0}", inout(xmm_reg) r, options(pure, nomem, nostack)) };
     r
-}
-
-/// Nanoseconds for each of n steps: the best of the rounds for each of the two.
-fn best(rounds: usize, n: usize, ours: &mut dyn FnMut(), peer: &mut dyn FnMut()) -> (f64, f64) {
-    let time = |f: &mut dyn FnMut()| {
-        let start = Instant::now();
-        f();
-        start.elapsed().as_nanos() as f64 / n as f64
-    };
-    let (mut a, mut b) = (f64::MAX, f64::MAX);
-    for _ in 0..rounds {
-        a = a.min(time(ours));
-        b = b.min(time(peer));
-    }
-    (a, b)
 }
 
 fn roots(random: &mut Random) {

@@ -2,6 +2,7 @@
 -- Tests: a fact `b ≡ true` of code's test, and lib.Ieee's T b
 --   holds, fails            from `b ≡ true` to T b, from `b ≡ false` to T (not b); lib.Ieee.Bits.is-true and is-false go back
 --   refuted, contrary       a test that cannot hold fails; none does both
+--   and-true, and-left, and-right, and-false-left, and-false-right, or-false-left, or-false-right   two tests together
 --   same-test, cond-has     two tests that imply each other are equal; what both choices have, the chosen one has
 --   lt-or-ge                two natural numbers, one way or the other
 -- Line: floats that are no NaN as natural numbers

@@ -1,0 +1,4 @@
+-- The job of a part file.
+pub mod Job
+pub mod Rules
+pub mod Good

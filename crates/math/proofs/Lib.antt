@@ -1,0 +1,2 @@
+-- The laws on vectors.
+pub mod VectorLaws

@@ -1,0 +1,3 @@
+-- What the operations on vectors mean.
+pub mod Vector
+pub mod Size

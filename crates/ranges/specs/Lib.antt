@@ -1,0 +1,2 @@
+-- What holds of the numbers below n.
+pub mod Below

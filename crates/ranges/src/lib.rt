@@ -1,0 +1,1 @@
+// Definitions and laws on the numbers below n; no code.
