@@ -14,6 +14,9 @@ judge-requires c κs = search needs
 refusal-requires : tie.Need-refusal-requires
 refusal-requires c κs = search needs
 
+cast-print-decimal : tie.Need-cast-print-decimal
+cast-print-decimal c = search needs
+
 print-decimal-requires : tie.Need-print-decimal-requires
 print-decimal-requires c κs = search needs
 
@@ -42,6 +45,7 @@ print-number-spec =
     slice-aggregate-judge
     judge-requires
     refusal-requires
+    cast-print-decimal
     print-decimal-requires
     slice-aggregate-write-all
     write-all-requires
