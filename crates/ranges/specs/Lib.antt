@@ -1,2 +1,3 @@
--- What holds of the numbers below n.
+-- What holds of the numbers below n, and of the parts of a slice.
 pub mod Below
+pub mod Region

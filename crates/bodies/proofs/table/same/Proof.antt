@@ -1,0 +1,96 @@
+-- `bodies::table::same` meets its contract.
+use mathlib.Core.Path.{refl}
+use borrow.Author.Needs.{needs}
+use Rattle.bodies.specs.Table.{eqKey}
+use Rattle.bodies.proofs.table.same.Statement.{statement}
+use Rattle.bodies.proofs.table.same.Tie as tie
+
+mul-a : tie.Need-mul-a
+mul-a c = search needs
+
+add-a : tie.Need-add-a
+add-a c = search needs
+
+mul-b : tie.Need-mul-b
+mul-b c = search needs
+
+add-b : tie.Need-add-b
+add-b c = search needs
+
+mul-result : tie.Need-mul-result
+mul-result c = search needs
+
+shared-slice-read-result : tie.Need-shared-slice-read-result
+shared-slice-read-result c = search needs
+
+mul-result-2 : tie.Need-mul-result-2
+mul-result-2 c = search needs
+
+shared-slice-read-result-2 : tie.Need-shared-slice-read-result-2
+shared-slice-read-result-2 c = search needs
+
+add-result : tie.Need-add-result
+add-result c = search needs
+
+mul-result-3 : tie.Need-mul-result-3
+mul-result-3 c = search needs
+
+shared-slice-read-result-3 : tie.Need-shared-slice-read-result-3
+shared-slice-read-result-3 c = search needs
+
+add-result-2 : tie.Need-add-result-2
+add-result-2 c = search needs
+
+mul-result-4 : tie.Need-mul-result-4
+mul-result-4 c = search needs
+
+shared-slice-read-result-4 : tie.Need-shared-slice-read-result-4
+shared-slice-read-result-4 c = search needs
+
+add-result-3 : tie.Need-add-result-3
+add-result-3 c = search needs
+
+mul-result-5 : tie.Need-mul-result-5
+mul-result-5 c = search needs
+
+shared-slice-read-result-5 : tie.Need-shared-slice-read-result-5
+shared-slice-read-result-5 c = search needs
+
+add-result-4 : tie.Need-add-result-4
+add-result-4 c = search needs
+
+mul-result-6 : tie.Need-mul-result-6
+mul-result-6 c = search needs
+
+shared-slice-read-result-6 : tie.Need-shared-slice-read-result-6
+shared-slice-read-result-6 c = search needs
+
+returns : tie.Need-returns
+unfolding eqKey
+returns c = refl
+
+pub same-spec : {M : Type 1} → statement M
+same-spec =
+    tie.close
+    (tie.spec
+    mul-a
+    add-a
+    mul-b
+    add-b
+    mul-result
+    shared-slice-read-result
+    mul-result-2
+    shared-slice-read-result-2
+    add-result
+    mul-result-3
+    shared-slice-read-result-3
+    add-result-2
+    mul-result-4
+    shared-slice-read-result-4
+    add-result-3
+    mul-result-5
+    shared-slice-read-result-5
+    add-result-4
+    mul-result-6
+    shared-slice-read-result-6
+    returns)

@@ -1,0 +1,7 @@
+// The bodies of a part, which are the sets of polygons that chains of touching polygons join, and their volumes.
+mod cells;
+mod corner;
+mod forest;
+pub mod label;
+mod table;
+pub mod volume;

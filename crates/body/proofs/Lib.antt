@@ -1,0 +1,2 @@
+-- The laws on the regions of the scratch.
+pub mod WordsLaws

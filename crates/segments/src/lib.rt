@@ -1,0 +1,4 @@
+// The shared segments of a part.
+pub mod chains;
+pub mod key;
+pub mod shared;

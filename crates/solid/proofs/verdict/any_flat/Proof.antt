@@ -1,0 +1,114 @@
+-- `solid::verdict::any_flat` meets its contract.
+use borrow.Author.Needs.{needs}
+use mathlib.Core.Path.{_≡_}
+use Prim.Native.Nat.{_-_, _≤_}
+use native.Mathlib.Omega.{arith}
+use denote.Ref.{now}
+use Rattle.part.specs.Part.{partOf}
+use Rattle.part.specs.Verdict.{Readable}
+use Rattle.solid.specs.Faces.{polygonFlat}
+use Rattle.solid.proofs.BodyLaws.{readable-long, EntryRoom, entry-room, RunRoom, run-room, run-flat, polygons-are}
+use Rattle.solid.proofs.BodyLaws.{NoneFlat, flat-none, flat-more, flat-found, flat-all}
+use Rattle.solid.proofs.verdict.any_flat.Statement.{statement}
+use Rattle.solid.proofs.verdict.any_flat.Tie as tie
+
+abbrev Inv-loop : tie.InvT-loop
+Inv-loop file vertices polygons p₀ p = (p ≤ polygons) × NoneFlat (partOf file) p
+
+abbrev μ-loop : tie.MeasureT-loop
+μ-loop file vertices polygons p₀ p = polygons - p
+
+-- what the function was called with
+abbrev start : tie.In-loop Inv-loop μ-loop → tie.Start Inv-loop μ-loop
+start c = c .before .before .before .before .before
+
+readable : (c : tie.In-loop Inv-loop μ-loop) → Readable (now (start c .args .file))
+readable c = start c .pre
+
+-- the polygon's entry
+entry : (c : tie.In-loop Inv-loop μ-loop) → EntryRoom (now (start c .args .file)) (c .before .before .before .vertex-count .result) (c .before .loop .p)
+entry c =
+    entry-room _ _ _ _ (readable c) (c .before .before .before .vertex-count .ensures) (c .before .before .polygon-count .ensures) (c .loop-test .taken)
+
+-- and its run of vertices
+run : (c : tie.After-run-length Inv-loop μ-loop) →
+    RunRoom (now (start (c .before .before) .args .file)) (c .before .first-vertex .result) (c .run-length .result)
+run c =
+    let i = c .before .before in
+    run-room _ _ _ _ _ _ (readable i) (i .before .before .before .vertex-count .ensures) (i .before .before .polygon-count .ensures) (i .loop-test .taken)
+    (c .before .first-vertex .ensures) (c .run-length .ensures .0)
+
+flat : (c : tie.After-is-flat Inv-loop μ-loop) →
+    c .is-flat .result ≡ polygonFlat (partOf (now (start (c .before .before .before) .args .file))) (c .before .before .before .before .loop .p)
+flat c =
+    run-flat _ _ _ _ _ _ (c .before .before .before .before .before .before .vertex-count .ensures) (c .before .before .first-vertex .ensures)
+    (c .before .run-length .ensures .0) (c .is-flat .ensures)
+
+vertex-count-requires : tie.Need-vertex-count-requires Inv-loop μ-loop
+vertex-count-requires c κs = readable-long _ (c .before .pre)
+
+polygon-count-requires : tie.Need-polygon-count-requires Inv-loop μ-loop
+polygon-count-requires c κs = readable-long _ (c .before .before .pre)
+
+loop-holds : tie.Need-loop-holds Inv-loop μ-loop
+loop-holds c = (omega arith, flat-none _)
+
+mul-at : tie.Need-mul-at Inv-loop μ-loop
+mul-at c = search (needs, entry c .vertices)
+
+mul-at-2 : tie.Need-mul-at-2 Inv-loop μ-loop
+mul-at-2 c = search (needs, entry c .polygon)
+
+add-at : tie.Need-add-at Inv-loop μ-loop
+add-at c = search (needs, entry c .vertices, entry c .polygon)
+
+first-vertex-requires : tie.Need-first-vertex-requires Inv-loop μ-loop
+first-vertex-requires c κs = entry c .inside
+
+run-length-requires : tie.Need-run-length-requires Inv-loop μ-loop
+run-length-requires c κs = entry (c .before) .inside
+
+is-flat-requires : tie.Need-is-flat-requires Inv-loop μ-loop
+is-flat-requires c κs = run c .inside
+
+returns : tie.Need-returns Inv-loop μ-loop
+returns c =
+    let i = c .before .before .before .before in
+    flat-found _ _ _ _ (polygons-are _ _ (i .before .before .polygon-count .ensures)) (i .loop-test .taken) (flat (c .before)) (c .if1 .taken)
+
+add-p : tie.Need-add-p Inv-loop μ-loop
+add-p c = search needs
+
+loop-less : tie.Need-loop-less Inv-loop μ-loop
+loop-less c = search needs
+
+loop-again : tie.Need-loop-again Inv-loop μ-loop
+loop-again c =
+    let i = c .before .before .before .before in
+    (omega (arith, i .loop-test .taken), flat-more _ _ _ (flat (c .before)) (c .if1 .left) (i .before .loop .inv .1))
+
+returns-2 : tie.Need-returns-2 Inv-loop μ-loop
+returns-2 c =
+    let l = c .before .loop in
+    flat-all _ _ _ (polygons-are _ _ (c .before .before .polygon-count .ensures)) (l .inv .0) (c .loop-test .left) (l .inv .1)
+
+pub any-flat-spec : {M : Type 1} → statement M
+any-flat-spec =
+    tie.close
+    (tie.spec
+    Inv-loop
+    μ-loop
+    vertex-count-requires
+    polygon-count-requires
+    loop-holds
+    mul-at
+    mul-at-2
+    add-at
+    first-vertex-requires
+    run-length-requires
+    is-flat-requires
+    returns
+    add-p
+    loop-less
+    loop-again
+    returns-2)

@@ -1,0 +1,91 @@
+// Areas and planes of the polygons, each computed once, and the areas of the faces.
+ghost use mathlib.Core.Path.{_≡_};
+ghost use Prim.Native.Nat.{_+_, _*_, _≤_, _<_};
+ghost use lib.ListN.{length};
+ghost use Rattle.part.specs.Layout.{polygonCount};
+ghost use Rattle.part.specs.Part.{partOf};
+ghost use Rattle.solid.specs.Faces.{facesOf, Checked};
+ghost use Rattle.solid.specs.Kept.{FaceNumbers, KeptAreas, Zeros, FaceAreas, putPlane, KeptPlanes};
+use crate::polygon::Plane;
+use crate::polygon::poly_area;
+use part::read::first_vertex;
+use part::read::polygon_count;
+use part::read::run_length;
+use part::read::vertex_count;
+
+// The area of each polygon.
+pub fn put_areas(file: &[u8], areas: &mut [f64])
+    requires { ⌜ Checked (now file) ⌝ ∗ ⌜ length (now areas) ≡ polygonCount (now file) ⌝ }
+    ensures { λ r. ⌜ KeptAreas (partOf (now (file .entry))) (polygonCount (now (file .entry))) (now (areas .exit)) ⌝ }
+    ensures { λ r. ⌜ length (now (areas .exit)) ≡ length (now (areas .entry)) ⌝ }
+{
+    let vertices = vertex_count(file);
+    let polygons = polygon_count(file);
+    let mut p: usize = 0;
+    while p < polygons {
+        let at = 24 * vertices + 80 * p;
+        areas[p] = poly_area(file, first_vertex(file, at), run_length(file, at));
+        p += 1;
+    }
+}
+
+fn clear(out: &mut [f64])
+    ensures { λ r. ⌜ Zeros (now (out .exit)) ⌝ }
+    ensures { λ r. ⌜ length (now (out .exit)) ≡ length (now (out .entry)) ⌝ }
+{
+    let mut i: usize = 0;
+    while i < out.len() {
+        out[i] = 0.0;
+        i += 1;
+    }
+}
+
+// The area of each face, added in the order of its polygons.
+pub fn put_face_areas(file: &[u8], faces: &[u32], areas: &[f64], out: &mut [f64])
+    requires { ⌜ Checked (now file) ⌝ ∗ ⌜ length (now faces) ≡ polygonCount (now file) ⌝ ∗ ⌜ length (now areas) ≡ polygonCount (now file) ⌝ }
+    requires { ⌜ facesOf (partOf (now file)) ≤ length (now out) ⌝ }
+    requires { ⌜ FaceNumbers (partOf (now file)) (polygonCount (now file)) (now faces) ⌝ }
+    requires { ⌜ KeptAreas (partOf (now file)) (polygonCount (now file)) (now areas) ⌝ }
+    ensures { λ r. ⌜ FaceAreas (partOf (now (file .entry))) (now (out .exit)) ⌝ }
+    ensures { λ r. ⌜ length (now (out .exit)) ≡ length (now (out .entry)) ⌝ }
+{
+    clear(out);
+    let polygons = polygon_count(file);
+    let mut p: usize = 0;
+    while p < polygons {
+        let f = faces[p] as usize;
+        out[f] = out[f] + areas[p];
+        p += 1;
+    }
+}
+
+fn put_plane(planes: &mut [f64], p: usize, plane: Plane)
+    requires { ⌜ 4 * p + 4 ≤ length (now planes) ⌝ }
+    ensures { λ r. ⌜ now (planes .exit) ≡ putPlane (now (planes .entry)) p plane ⌝ }
+{
+    let at = 4 * p;
+    planes[at] = plane.normal.x;
+    planes[at + 1] = plane.normal.y;
+    planes[at + 2] = plane.normal.z;
+    planes[at + 3] = plane.w;
+}
+
+// The plane of each polygon: normal and w, four numbers from 4p on.
+pub fn put_planes(file: &[u8], planes: &mut [f64])
+    requires { ⌜ Checked (now file) ⌝ ∗ ⌜ length (now planes) ≡ 4 * polygonCount (now file) ⌝ }
+    ensures { λ r. ⌜ KeptPlanes (partOf (now (file .entry))) (polygonCount (now (file .entry))) (now (planes .exit)) ⌝ }
+    ensures { λ r. ⌜ length (now (planes .exit)) ≡ length (now (planes .entry)) ⌝ }
+{
+    let vertices = vertex_count(file);
+    let polygons = polygon_count(file);
+    let mut p: usize = 0;
+    while p < polygons {
+        let at = 24 * vertices + 80 * p;
+        put_plane(
+            planes,
+            p,
+            Plane::new(file, first_vertex(file, at), run_length(file, at)),
+        );
+        p += 1;
+    }
+}
