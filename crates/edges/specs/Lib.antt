@@ -1,0 +1,5 @@
+-- The edges between faces.
+pub mod Edges
+pub mod Neighbours
+pub mod Distance
+pub mod Scan
