@@ -21,6 +21,9 @@ mod c {
         pub fn gablemadder_put_thousandths(out: *mut u8, len: usize, at: usize, n: u64) -> usize;
         pub fn gablemadder_put_decimal(out: *mut u8, len: usize, at: usize, x: f64, places: u32) -> usize;
         pub fn gablemadder_part_verdict(file: *const u8, len: usize) -> u32;
+        pub fn gablemadder_body(file: *const u8, len: usize, words: *mut u32, words_len: usize, reals: *mut f64, reals_len: usize) -> u32;
+        pub fn gablemadder_shared_segments(file: *const u8, len: usize, mem: *mut u32, mem_len: usize) -> u32;
+        pub fn gablemadder_bodies(file: *const u8, len: usize, mem: *mut u32, mem_len: usize) -> u32;
     }
 }
 
@@ -96,4 +99,19 @@ pub fn put_decimal(out: &mut [u8], at: usize, x: f64, places: u32) -> usize {
 /// The refusal from 1 to 7 that turns a part file back, 0 for none.
 pub fn part_verdict(file: &[u8]) -> u32 {
     unsafe { c::gablemadder_part_verdict(file.as_ptr(), file.len()) }
+}
+
+/// The body of a part in the lent cells and 0; or the refusal from 1 to 10.
+pub fn body(file: &[u8], words: &mut [u32], reals: &mut [f64]) -> u32 {
+    unsafe { c::gablemadder_body(file.as_ptr(), file.len(), words.as_mut_ptr(), words.len(), reals.as_mut_ptr(), reals.len()) }
+}
+
+/// The sides of a part and their pairs alone.
+pub fn shared_segments(file: &[u8], mem: &mut [u32]) -> u32 {
+    unsafe { c::gablemadder_shared_segments(file.as_ptr(), file.len(), mem.as_mut_ptr(), mem.len()) }
+}
+
+/// The lowest polygon of each polygon's body alone.
+pub fn bodies(file: &[u8], mem: &mut [u32]) -> u32 {
+    unsafe { c::gablemadder_bodies(file.as_ptr(), file.len(), mem.as_mut_ptr(), mem.len()) }
 }

@@ -187,7 +187,8 @@ least-step t test p n x true e h =
     go true c =
         record {
           none-nearer = each (sideDistance t p n)
-              (λ s l w. refuted (lt (sideDistance t p s) (sideDistance t p n)) (λ y. contrary (lt-trans (sideDistance t p s) (sideDistance t p n) x y c) (h .none-nearer s l w)))
+              (λ s l w. refuted (lt (sideDistance t p s) (sideDistance t p n))
+              (λ y. contrary (lt-trans (sideDistance t p s) (sideDistance t p n) x y c) (h .none-nearer s l w)))
               (lt-irrefl (sideDistance t p n));
           of-some = inr (record { side = n; below = omega arith; passes = e; is = refl });
           a-number = le-numbers (sideDistance t p n) x (lt-le (sideDistance t p n) x c) .0;

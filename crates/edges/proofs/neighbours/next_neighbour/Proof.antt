@@ -28,7 +28,8 @@ leads-to-requires : tie.Need-leads-to-requires Inv-loop μ-loop
 leads-to-requires c κs = (c .before .before .before .before .before .before .pre .0, (c .before .before .vertex-count .ensures, c .loop-test .taken))
 
 -- what a side leads to is one of the faces, or none
-few : (c : tie.After-leads-to Inv-loop μ-loop) → c .leads-to .result ≤ facesOf (partOf (c .before .before .before .before .before .before .before .args .file .now))
+few : (c : tie.After-leads-to Inv-loop μ-loop) →
+    c .leads-to .result ≤ facesOf (partOf (c .before .before .before .before .before .before .before .args .file .now))
 few c =
     let start = c .before .before .before .before .before .before .before in
     leads-within (start .args .file .now) (lent-readable (start .pre .0)) _

@@ -1,0 +1,81 @@
+//! Lent cells full of garbage, with a margin to each side that no call may reach.
+use crate::random::Random;
+
+const MARGIN: usize = 16;
+
+pub trait Cell: Copy {
+    fn from_bits(bits: u64) -> Self;
+    fn same(self, other: Self) -> bool;
+}
+
+impl Cell for u32 {
+    fn from_bits(bits: u64) -> u32 {
+        bits as u32
+    }
+
+    fn same(self, other: u32) -> bool {
+        self == other
+    }
+}
+
+impl Cell for f64 {
+    fn from_bits(bits: u64) -> f64 {
+        f64::from_bits(bits)
+    }
+
+    fn same(self, other: f64) -> bool {
+        self.to_bits() == other.to_bits()
+    }
+}
+
+pub struct Scratch<T> {
+    cells: Vec<T>,
+    before: Vec<T>,
+}
+
+impl<T: Cell> Scratch<T> {
+    pub fn new() -> Scratch<T> {
+        Scratch { cells: Vec::new(), before: Vec::new() }
+    }
+
+    /// So many cells, filled by one of four kinds of garbage: anything, all ones, zeros, and numbers below `small`, which look like numbers of
+    /// vertices, polygons or cells.
+    pub fn lend(&mut self, n: usize, kind: usize, small: usize, random: &mut Random) {
+        let limit = small as u64 + 2;
+        self.cells.clear();
+        self.cells.extend((0..n + 2 * MARGIN).map(|_| {
+            T::from_bits(match kind % 4 {
+                0 => random.next(),
+                1 => u64::MAX,
+                2 => random.below(limit),
+                _ => 0,
+            })
+        }));
+        self.before.clone_from(&self.cells);
+    }
+
+    pub fn cells(&mut self) -> &mut [T] {
+        let n = self.cells.len();
+        &mut self.cells[MARGIN..n - MARGIN]
+    }
+
+    /// All but the last cell.
+    pub fn one_short(&mut self) -> &mut [T] {
+        let cells = self.cells();
+        let n = cells.len();
+        &mut cells[..n - 1]
+    }
+
+    fn same(&self, range: std::ops::Range<usize>) -> bool {
+        self.cells[range.clone()].iter().zip(&self.before[range]).all(|(a, b)| a.same(*b))
+    }
+
+    pub fn is_unchanged(&self) -> bool {
+        self.same(0..self.cells.len())
+    }
+
+    pub fn margins_are_unchanged(&self) -> bool {
+        let n = self.cells.len();
+        self.same(0..MARGIN) && self.same(n - MARGIN..n)
+    }
+}

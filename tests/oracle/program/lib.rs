@@ -1,0 +1,29 @@
+//! The oracle as a library, for tests that call it file by file, and the Rust's own functions for benchmarks beside ours.
+mod dfm;
+pub mod lists;
+mod material;
+pub mod math;
+mod part;
+mod sine;
+pub mod solid;
+
+/// What dfm.rs imports by the name of its crate.
+mod anvil_kernel {
+    pub use crate::math::{v3, Vec3};
+    pub use crate::solid::{FaceId, Solid, SurfaceKind};
+}
+
+pub use dfm::roots;
+
+/// Called by the check, which is not run here.
+fn note_faults(_: usize) {}
+
+/// The refusal from 1 to 9 that a file meets, 0 for none.
+pub fn refusal(file: &[u8]) -> u32 {
+    part::read(file).err().unwrap_or(0)
+}
+
+/// The body that the check takes, or the refusal from 1 to 9.
+pub fn body(file: &[u8]) -> Result<solid::Solid, u32> {
+    Ok(part::read(file)?.body)
+}
