@@ -1,2 +1,4 @@
--- The laws on the regions of the scratch.
+-- The laws on the regions of the scratch, and on the answer.
 pub mod WordsLaws
+pub mod RealsLaws
+pub mod AnswerLaws

@@ -3,7 +3,7 @@
 use Prim.Native.Nat.{ℕ, _+_, _*_}
 
 -- ---- u32
-unfoldable pub wordsNeeded : ℕ → ℕ → ℕ
+abbrev pub wordsNeeded : ℕ → ℕ → ℕ
 wordsNeeded p v = 8 * p + 8 * v + 1024
 
 -- from 0 on the body of each polygon, by its lowest polygon; the work of finding them takes 6V more, where the sides come later
@@ -20,7 +20,7 @@ abbrev pub wordsEnd : ℕ → ℕ → ℕ
 wordsEnd p v = facesAt p v + (p + 1024)
 
 -- ---- f64
-unfoldable pub realsNeeded : ℕ → ℕ → ℕ
+abbrev pub realsNeeded : ℕ → ℕ → ℕ
 realsNeeded p v = 16 * p + 8 * v + 2048
 
 -- from 0 on four numbers for the plane of each polygon, then its area
@@ -37,4 +37,4 @@ volumesAt p = 5 * p + 1024
 
 -- where they end: 10P + 8V + 1,024 are left
 abbrev pub realsEnd : ℕ → ℕ
-realsEnd p = 6 * p + 1024
+realsEnd p = volumesAt p + p

@@ -103,7 +103,7 @@ unfolding someFlat
 flat-all t p P same a b h = sym (ap not (subst (NoneFlat t) (le-antisymm a b ∙ same) h))
 
 -- ---- the verdict, return by return
-accepted : (x : Verdict) → number x ≡ 0 → x ≡ Accepted
+pub accepted : (x : Verdict) → number x ≡ 0 → x ≡ Accepted
 unfolding number
 accepted Accepted h = refl
 accepted TooShort h = absurd (omega (arith, h))

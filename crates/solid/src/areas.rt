@@ -1,11 +1,12 @@
 // Areas and planes of the polygons, each computed once, and the areas of the faces.
 ghost use mathlib.Core.Path.{_≡_};
 ghost use Prim.Native.Nat.{_+_, _*_, _≤_, _<_};
-ghost use lib.ListN.{length};
+ghost use lib.ListN.{length, getD, set};
+ghost use lib.Ieee.{nan, binary64, add};
 ghost use Rattle.part.specs.Layout.{polygonCount};
 ghost use Rattle.part.specs.Part.{partOf};
-ghost use Rattle.solid.specs.Faces.{facesOf, Checked};
-ghost use Rattle.solid.specs.Kept.{FaceNumbers, KeptAreas, Zeros, FaceAreas, putPlane, KeptPlanes};
+ghost use Rattle.solid.specs.Faces.{Checked};
+ghost use Rattle.solid.specs.Kept.{KeptAreas, Zeros, putPlane, KeptPlanes};
 use crate::polygon::Plane;
 use crate::polygon::poly_area;
 use part::read::first_vertex;
@@ -29,7 +30,8 @@ pub fn put_areas(file: &[u8], areas: &mut [f64])
     }
 }
 
-fn clear(out: &mut [f64])
+// Every cell gets 0.0.
+pub fn clear(out: &mut [f64])
     ensures { λ r. ⌜ Zeros (now (out .exit)) ⌝ }
     ensures { λ r. ⌜ length (now (out .exit)) ≡ length (now (out .entry)) ⌝ }
 {
@@ -40,23 +42,12 @@ fn clear(out: &mut [f64])
     }
 }
 
-// The area of each face, added in the order of its polygons.
-pub fn put_face_areas(file: &[u8], faces: &[u32], areas: &[f64], out: &mut [f64])
-    requires { ⌜ Checked (now file) ⌝ ∗ ⌜ length (now faces) ≡ polygonCount (now file) ⌝ ∗ ⌜ length (now areas) ≡ polygonCount (now file) ⌝ }
-    requires { ⌜ facesOf (partOf (now file)) ≤ length (now out) ⌝ }
-    requires { ⌜ FaceNumbers (partOf (now file)) (polygonCount (now file)) (now faces) ⌝ }
-    requires { ⌜ KeptAreas (partOf (now file)) (polygonCount (now file)) (now areas) ⌝ }
-    ensures { λ r. ⌜ FaceAreas (partOf (now (file .entry))) (now (out .exit)) ⌝ }
-    ensures { λ r. ⌜ length (now (out .exit)) ≡ length (now (out .entry)) ⌝ }
+// Adds an area to that of face f.
+pub fn add_area(out: &mut [f64], f: usize, area: f64)
+    requires { ⌜ f < length (now out) ⌝ }
+    ensures { λ r. ⌜ now (out .exit) ≡ set (now (out .entry)) f (add binary64 (getD (now (out .entry)) f nan) area) ⌝ }
 {
-    clear(out);
-    let polygons = polygon_count(file);
-    let mut p: usize = 0;
-    while p < polygons {
-        let f = faces[p] as usize;
-        out[f] = out[f] + areas[p];
-        p += 1;
-    }
+    out[f] = out[f] + area;
 }
 
 fn put_plane(planes: &mut [f64], p: usize, plane: Plane)
