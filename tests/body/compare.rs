@@ -3,10 +3,10 @@ use crate::against;
 use crate::definition;
 use crate::field::Blocks;
 use crate::gablemadder;
-use crate::layout::{Layout, STAGES_LOOK_AT};
+use crate::layout::Layout;
 use crate::mesh::Mesh;
 use crate::random::Random;
-use crate::regions::{self, same, Regions};
+use crate::regions::Regions;
 use crate::scratch::Scratch;
 use crate::tally::Tally;
 use oracle::lists::Lists;
@@ -70,14 +70,7 @@ impl Compare {
         self.reals.lend(n, kind, n, &mut self.random);
         let ours = gablemadder::body(&self.lent, self.words.cells(), self.reals.cells());
         self.is_refusal("body", ours, number)?;
-        self.is_refusal("by definition", definition::verdict(file), number)?;
-        if number > STAGES_LOOK_AT {
-            return Ok(());
-        }
-        let ours = gablemadder::shared_segments(&self.lent, self.words.cells());
-        self.is_refusal("shared_segments", ours, number)?;
-        let ours = gablemadder::bodies(&self.lent, self.words.cells());
-        self.is_refusal("bodies", ours, number)
+        self.is_refusal("by definition", definition::verdict(file), number)
     }
 
     /// This answer, and no cell changed.
@@ -103,8 +96,7 @@ impl Compare {
         let again = self.body(layout, lists.faces.len(), other, more)?;
         again.compare(&found).map_err(|place| format!("with other garbage: {place}"))?;
         self.by_definition(file, &found)?;
-        self.too_short(layout)?;
-        self.stages(layout, &found)
+        self.too_short(layout)
     }
 
     /// The regions, with so many cells more than are needed.
@@ -160,27 +152,5 @@ impl Compare {
         self.is_refusal("body, an f64 too few,", ours, 10)?;
         let ours = gablemadder::body(&self.lent, &mut [], &mut []);
         self.is_refusal("body, nothing lent,", ours, 10)
-    }
-
-    /// The two stages alone find what they find within the whole.
-    fn stages(&mut self, layout: Layout, body: &Regions) -> Result<(), String> {
-        let words = self.stage("shared_segments", gablemadder::shared_segments, layout.lent_for_segments())?;
-        same("shared_segments: side", &regions::sides(layout, words, 0), &body.sides)?;
-        let words = self.stage("bodies", gablemadder::bodies, layout.lent_for_bodies())?;
-        same("bodies: label", &regions::labels(layout, words), &body.labels)
-    }
-
-    fn stage(&mut self, name: &str, call: fn(&[u8], &mut [u32]) -> u32, n: usize) -> Result<&[u32], String> {
-        let kind = self.random.below(4) as usize;
-        self.words.lend(n, kind, n, &mut self.random);
-        if n > 0 {
-            let ours = call(&self.lent, self.words.one_short());
-            self.is_refusal(name, ours, 10)?;
-        }
-        let ours = call(&self.lent, self.words.cells());
-        if ours != 0 || !self.words.margins_are_unchanged() {
-            return Err(format!("{name} {ours} for 0, or cells outside the lent ones are changed"));
-        }
-        Ok(self.words.cells())
     }
 }

@@ -7,9 +7,6 @@ const END: usize = 3;
 const OWNER: usize = 4;
 const PAIR: usize = 7;
 
-/// The highest refusal that `gablemadder_shared_segments` and `gablemadder_bodies` look at; a file that is turned back for more is read.
-pub const STAGES_LOOK_AT: u32 = 7;
-
 #[derive(Clone, Copy)]
 pub struct Layout {
     pub polygons: usize,
