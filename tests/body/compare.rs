@@ -3,10 +3,10 @@ use crate::against;
 use crate::definition;
 use crate::field::Blocks;
 use crate::gablemadder;
-use crate::layout::Layout;
+use crate::layout::{Layout, Side};
 use crate::mesh::Mesh;
 use crate::random::Random;
-use crate::regions::Regions;
+use crate::regions::{labels, same, sides, Regions};
 use crate::scratch::Scratch;
 use crate::tally::Tally;
 use oracle::lists::Lists;
@@ -70,7 +70,25 @@ impl Compare {
         self.reals.lend(n, kind, n, &mut self.random);
         let ours = gablemadder::body(&self.lent, self.words.cells(), self.reals.cells());
         self.is_refusal("body", ours, number)?;
-        self.is_refusal("by definition", definition::verdict(file), number)
+        self.is_refusal("by definition", definition::verdict(file), number)?;
+        if number > 7 {
+            return self.alone_of_refused(file);
+        }
+        let ours = gablemadder::shared_segments(&self.lent, self.words.cells());
+        self.is_refusal("segments alone", ours, number)?;
+        let ours = gablemadder::bodies(&self.lent, self.words.cells());
+        self.is_refusal("bodies alone", ours, number)
+    }
+
+    /// Segments and bodies alone ask nothing of normals or of the number of faces, so 8 and 9 do not turn a file back from them.
+    fn alone_of_refused(&mut self, file: &[u8]) -> Result<(), String> {
+        let mesh = Mesh::read(file);
+        if mesh.vertices() > SMALL {
+            return Ok(());
+        }
+        let layout = Layout { polygons: mesh.polygons.len(), vertices: mesh.vertices() };
+        let found = definition::regions(&mesh);
+        self.alone(layout, &found.sides, &found.labels)
     }
 
     /// This answer, and no cell changed.
@@ -96,7 +114,52 @@ impl Compare {
         let again = self.body(layout, lists.faces.len(), other, more)?;
         again.compare(&found).map_err(|place| format!("with other garbage: {place}"))?;
         self.by_definition(file, &found)?;
+        self.alone(layout, &found.sides, &found.labels)?;
         self.too_short(layout)
+    }
+
+    /// The segments alone and the bodies alone: what they find is the body's, and no cell past what they need is changed.
+    fn alone(&mut self, layout: Layout, of_body: &[Side], of_bodies: &[u32]) -> Result<(), String> {
+        let (segments, bodies) = (layout.lent_for_segments(), layout.lent_for_bodies());
+        self.lend_words(segments, layout);
+        let ours = gablemadder::shared_segments(&self.lent, self.words.cells());
+        self.is_alone("segments", ours, segments)?;
+        same("side of the segments alone", &sides(layout, self.words.cells(), 0), of_body)?;
+        self.lend_words(bodies, layout);
+        let ours = gablemadder::bodies(&self.lent, self.words.cells());
+        self.is_alone("bodies", ours, bodies)?;
+        same("label of the bodies alone", &labels(layout, self.words.cells()), of_bodies)?;
+        self.too_short_alone(segments, bodies)
+    }
+
+    /// So many cells or a few more, with any garbage.
+    fn lend_words(&mut self, least: usize, layout: Layout) {
+        let (kind, more) = (self.random.below(4) as usize, self.random.below(100) as usize);
+        self.words.lend(least + more, kind, layout.vertices, &mut self.random);
+    }
+
+    fn is_alone(&self, call: &str, ours: u32, least: usize) -> Result<(), String> {
+        if ours != 0 {
+            return Err(format!("{call} alone {ours} for 0"));
+        }
+        if self.words.is_unchanged_past(least) {
+            Ok(())
+        } else {
+            Err(format!("{call} alone: cells past the first {least} are changed"))
+        }
+    }
+
+    fn too_short_alone(&mut self, segments: usize, bodies: usize) -> Result<(), String> {
+        if segments == 0 {
+            return Ok(());
+        }
+        self.words.lend(segments, 0, 0, &mut self.random);
+        self.reals.lend(0, 0, 0, &mut self.random);
+        let ours = gablemadder::shared_segments(&self.lent, self.words.one_short());
+        self.is_refusal("segments alone, a u32 too few,", ours, 10)?;
+        self.words.lend(bodies, 0, 0, &mut self.random);
+        let ours = gablemadder::bodies(&self.lent, self.words.one_short());
+        self.is_refusal("bodies alone, a u32 too few,", ours, 10)
     }
 
     /// The regions, with so many cells more than are needed.

@@ -1,4 +1,5 @@
 //! The regions by their definitions, as document 01 and the Rust have them: everything is tried with everything. For small bodies.
+#![allow(dead_code)]
 use crate::layout::Side;
 use crate::mesh::{Mesh, Point, Polygon};
 use crate::reader;
@@ -49,7 +50,7 @@ pub fn regions(mesh: &Mesh) -> Regions {
 }
 
 /// The lowest polygon with the face of p.
-fn first_of_face(mesh: &Mesh, p: usize) -> usize {
+pub fn first_of_face(mesh: &Mesh, p: usize) -> usize {
     (0..p).find(|q| mesh.polygons[*q].face() == mesh.polygons[p].face()).unwrap_or(p)
 }
 
@@ -121,7 +122,7 @@ fn volume(mesh: &Mesh, labels: &[usize], body: usize) -> f64 {
     sum
 }
 
-fn area(v: &[Point]) -> f64 {
+pub fn area(v: &[Point]) -> f64 {
     (1..v.len() - 1).fold(0.0, |sum, i| sum + length(cross(minus(v[i], v[0]), minus(v[i + 1], v[0]))) * 0.5)
 }
 
@@ -137,7 +138,7 @@ fn normal_sum(v: &[Point]) -> Point {
     n
 }
 
-fn plane(polygon: &Polygon) -> [u64; 4] {
+pub fn plane(polygon: &Polygon) -> [u64; 4] {
     let v = &polygon.points;
     let sum = normal_sum(v);
     let normal = sum.map(|c| c / length(sum));
@@ -145,18 +146,24 @@ fn plane(polygon: &Polygon) -> [u64; 4] {
     [normal[0], normal[1], normal[2], dot(normal, middle)].map(f64::to_bits)
 }
 
-fn minus(a: Point, b: Point) -> Point {
+/// dfm.rs's own: times one over n.
+pub fn centroid(v: &[Point]) -> Point {
+    let sum = v.iter().fold([0.0; 3], |s, p| [s[0] + p[0], s[1] + p[1], s[2] + p[2]]);
+    sum.map(|c| c * (1.0 / v.len() as f64))
+}
+
+pub fn minus(a: Point, b: Point) -> Point {
     [a[0] - b[0], a[1] - b[1], a[2] - b[2]]
 }
 
-fn dot(a: Point, b: Point) -> f64 {
+pub fn dot(a: Point, b: Point) -> f64 {
     a[0] * b[0] + a[1] * b[1] + a[2] * b[2]
 }
 
-fn cross(a: Point, b: Point) -> Point {
+pub fn cross(a: Point, b: Point) -> Point {
     [a[1] * b[2] - a[2] * b[1], a[2] * b[0] - a[0] * b[2], a[0] * b[1] - a[1] * b[0]]
 }
 
-fn length(v: Point) -> f64 {
+pub fn length(v: Point) -> f64 {
     dot(v, v).sqrt()
 }

@@ -1,4 +1,5 @@
-//! Where the functions of the body put what they find, and what they have to be lent. Every offset stands here and nowhere else.
+//! Where the functions of the body, of the readings and of the rounds put what they find, and what they have to be lent. Every offset stands
+//! here and nowhere else.
 #![allow(dead_code)]
 
 /// Cells of a side; a side has the number of the vertex that it begins at.
@@ -14,7 +15,8 @@ pub struct Layout {
 }
 
 impl Layout {
-    /// The least that `gablemadder_body` has to be lent, of u32 and of f64: document 01's refusal 10.
+    /// The least that `gablemadder_body`, `gablemadder_samples` and `gablemadder_rounds` have to be lent, of u32 and of f64: document 01's
+    /// refusal 10.
     pub fn lent(&self) -> (usize, usize) {
         let (p, v) = (self.polygons, self.vertices);
         (8 * p + 8 * v + 1024, 16 * p + 8 * v + 2048)
@@ -61,6 +63,49 @@ impl Layout {
 
     pub fn face_area(&self, f: usize) -> usize {
         5 * self.polygons + f
+    }
+
+    /// Where the u32 of the body end.
+    fn words_end(&self) -> usize {
+        2 * self.polygons + CELLS * self.vertices + 1024
+    }
+
+    /// The polygon that reading k starts from.
+    pub fn reading(&self, k: usize) -> usize {
+        self.words_end() + k
+    }
+
+    /// The polygon that it hits.
+    pub fn hit(&self, k: usize) -> usize {
+        self.words_end() + self.polygons + k
+    }
+
+    /// How many readings there are; only where there are polygons.
+    pub fn readings(&self) -> usize {
+        self.words_end() + 5 * self.polygons
+    }
+
+    pub fn thickness(&self, k: usize) -> usize {
+        7 * self.polygons + 1024 + k
+    }
+
+    pub fn reading_area(&self, k: usize) -> usize {
+        8 * self.polygons + 1024 + k
+    }
+
+    /// What face f is as a round: 0 none, 1 convex, 2 concave, 3 a hole.
+    pub fn round_kind(&self, f: usize) -> usize {
+        self.words_end() + 4 * self.polygons + f
+    }
+
+    /// Its axis (3), its length and its centre (3).
+    pub fn round(&self, f: usize) -> usize {
+        9 * self.polygons + 1024 + 7 * f
+    }
+
+    /// The least that `gablemadder_raycast` has to be lent for planes.
+    pub fn lent_for_planes(&self) -> usize {
+        4 * self.polygons
     }
 }
 

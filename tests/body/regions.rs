@@ -1,4 +1,5 @@
 //! All that is promised of the lent cells after an accepted call, as lists; floats as their bits.
+#![allow(dead_code)]
 use crate::layout::{Layout, Side};
 
 pub struct Regions {

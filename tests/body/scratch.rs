@@ -1,4 +1,5 @@
 //! Lent cells full of garbage, with a margin to each side that no call may reach.
+#![allow(dead_code)]
 use crate::random::Random;
 
 const MARGIN: usize = 16;
@@ -74,8 +75,12 @@ impl<T: Cell> Scratch<T> {
         self.same(0..self.cells.len())
     }
 
+    /// All past the first n of the lent cells, and both margins.
+    pub fn is_unchanged_past(&self, n: usize) -> bool {
+        self.same(0..MARGIN) && self.same(MARGIN + n..self.cells.len())
+    }
+
     pub fn margins_are_unchanged(&self) -> bool {
-        let n = self.cells.len();
-        self.same(0..MARGIN) && self.same(n - MARGIN..n)
+        self.is_unchanged_past(self.cells.len() - 2 * MARGIN)
     }
 }

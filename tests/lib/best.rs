@@ -1,17 +1,22 @@
-//! Times of two pieces of work beside each other.
+//! Times of pieces of work beside each other.
+#![allow(dead_code)]
 use std::time::Instant;
 
 /// Nanoseconds for each of n steps: the best of the rounds for each of the two, taken in turn.
 pub fn best(rounds: usize, n: usize, ours: &mut dyn FnMut(), peer: &mut dyn FnMut()) -> (f64, f64) {
-    let time = |f: &mut dyn FnMut()| {
-        let start = Instant::now();
-        f();
-        start.elapsed().as_nanos() as f64 / n as f64
-    };
-    let (mut a, mut b) = (f64::MAX, f64::MAX);
-    for _ in 0..rounds {
-        a = a.min(time(ours));
-        b = b.min(time(peer));
-    }
+    let [a, b] = best_of(rounds, n, [ours, peer]);
     (a, b)
+}
+
+/// The same for any number of them.
+pub fn best_of<const N: usize>(rounds: usize, n: usize, mut work: [&mut dyn FnMut(); N]) -> [f64; N] {
+    let mut least = [f64::MAX; N];
+    for _ in 0..rounds {
+        for (f, least) in work.iter_mut().zip(&mut least) {
+            let start = Instant::now();
+            f();
+            *least = least.min(start.elapsed().as_nanos() as f64 / n as f64);
+        }
+    }
+    least
 }

@@ -24,6 +24,20 @@ mod c {
         pub fn gablemadder_body(file: *const u8, len: usize, words: *mut u32, words_len: usize, reals: *mut f64, reals_len: usize) -> u32;
         pub fn gablemadder_shared_segments(file: *const u8, len: usize, mem: *mut u32, mem_len: usize) -> u32;
         pub fn gablemadder_bodies(file: *const u8, len: usize, mem: *mut u32, mem_len: usize) -> u32;
+        pub fn gablemadder_samples(file: *const u8, len: usize, words: *mut u32, words_len: usize, reals: *mut f64, reals_len: usize) -> u32;
+        pub fn gablemadder_rounds(file: *const u8, len: usize, words: *mut u32, words_len: usize, reals: *mut f64, reals_len: usize) -> u32;
+        pub fn gablemadder_raycast(
+            file: *const u8,
+            len: usize,
+            planes: *mut f64,
+            planes_len: usize,
+            rays: *const f64,
+            rays_len: usize,
+            polygons: *mut u32,
+            polygons_len: usize,
+            times: *mut f64,
+            times_len: usize,
+        ) -> u32;
     }
 }
 
@@ -114,4 +128,21 @@ pub fn shared_segments(file: &[u8], mem: &mut [u32]) -> u32 {
 /// The lowest polygon of each polygon's body alone.
 pub fn bodies(file: &[u8], mem: &mut [u32]) -> u32 {
     unsafe { c::gablemadder_bodies(file.as_ptr(), file.len(), mem.as_mut_ptr(), mem.len()) }
+}
+
+/// The body and the thickness readings of a part in the lent cells and 0; or the refusal from 1 to 10.
+pub fn samples(file: &[u8], words: &mut [u32], reals: &mut [f64]) -> u32 {
+    unsafe { c::gablemadder_samples(file.as_ptr(), file.len(), words.as_mut_ptr(), words.len(), reals.as_mut_ptr(), reals.len()) }
+}
+
+/// The body and the rounds of a part in the lent cells and 0; or the refusal from 1 to 10.
+pub fn rounds(file: &[u8], words: &mut [u32], reals: &mut [f64]) -> u32 {
+    unsafe { c::gablemadder_rounds(file.as_ptr(), file.len(), words.as_mut_ptr(), words.len(), reals.as_mut_ptr(), reals.len()) }
+}
+
+/// Of each ray (origin, direction) the polygon that it strikes and how far along, and the planes of all polygons, and 0; or the refusal from 1
+/// to 10.
+pub fn raycast(file: &[u8], planes: &mut [f64], rays: &[f64], polygons: &mut [u32], times: &mut [f64]) -> u32 {
+    let (p, r, k, t) = (planes.as_mut_ptr(), rays.as_ptr(), polygons.as_mut_ptr(), times.as_mut_ptr());
+    unsafe { c::gablemadder_raycast(file.as_ptr(), file.len(), p, planes.len(), r, rays.len(), k, polygons.len(), t, times.len()) }
 }

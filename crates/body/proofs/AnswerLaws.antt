@@ -14,13 +14,7 @@ use Rattle.part.specs.Layout.{vertexCount, polygonCount}
 use Rattle.part.specs.Part.{partOf}
 use Rattle.part.specs.Verdict.{number}
 use Rattle.solid.specs.Faces.{bodyVerdict, Checked}
-use Rattle.solid.proofs.BodyLaws.{accepted}
 use Rattle.body.specs.Body.{Words, Reals, tooLittle, bodyRefusal, BodyPut}
-
--- the file's own refusals are past
-pub checked-by : (s : List ℕ) (x : Verdict) (r : ℕ) → x ≡ bodyVerdict s → r ≡ number x → r ≡ 0 → Checked s
-unfolding Checked
-checked-by s x r e q z = sym e ∙ accepted x (sym q ∙ z)
 
 pub answer-refused : (s words : List ℕ) (reals : List Float) (x : Verdict) (r : ℕ) → x ≡ bodyVerdict s → r ≡ number x → (r ≡ 0 → ⊥) → BodyPut s words words reals reals r
 unfolding bodyRefusal

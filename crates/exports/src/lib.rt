@@ -1,6 +1,7 @@
 // Each function that Rust or C may call. None has a condition: whatever is passed, the contract says what comes back.
-mod bodies;
 mod parts;
+mod rays;
 mod reals;
 mod roots;
+mod scratch;
 mod texts;

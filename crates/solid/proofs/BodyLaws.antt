@@ -120,6 +120,10 @@ pub is-readable : (s : List ℕ) (x : Verdict) (r : ℕ) → x ≡ verdictOf s �
 unfolding Readable
 is-readable s x r e n h = sym e ∙ accepted x (sym n ∙ h)
 
+pub is-checked : (s : List ℕ) (x : Verdict) (r : ℕ) → x ≡ bodyVerdict s → r ≡ number x → r ≡ 0 → Checked s
+unfolding Checked
+is-checked s x r e n h = sym e ∙ accepted x (sym n ∙ h)
+
 pub body-refused : (s : List ℕ) (x : Verdict) (r : ℕ) → x ≡ verdictOf s → r ≡ number x → (r ≡ 0 → ⊥) → x ≡ bodyVerdict s
 unfolding bodyVerdict
 body-refused s x r e n h =

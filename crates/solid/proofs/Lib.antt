@@ -8,6 +8,7 @@
 -- BodyLaws: a file that none of refusals 1 to 9 turns back
 --   checked-readable, checked-flat, checked-faces       none of 1 to 7, no flat polygon, at most 1,024 faces
 --   checked-number, number-room                         a face's number is below 1,024, and below a length that holds all faces
+--   is-readable, is-checked                             from the number of the verdict
 --   readable-long, entry-room, run-room, polygons-are   room in the file, in the words of the functions that read it
 --   run-flat, run-plane, run-area, one-face             a polygon of the part, in the same words
 -- CornerLaws, FirstLaws, KeptLaws: the steps of the functions here

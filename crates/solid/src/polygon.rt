@@ -14,7 +14,7 @@ pub struct Plane {
 }
 
 // The corner after corner k of n.
-fn next(n: usize, k: usize) -> usize
+pub fn next(n: usize, k: usize) -> usize
     requires { ⌜ k < n ⌝ }
     ensures { λ r. ⌜ r ≡ after n k ⌝ ∗ ⌜ r < n ⌝ }
 {

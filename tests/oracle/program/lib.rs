@@ -3,6 +3,7 @@ mod dfm;
 pub mod lists;
 mod material;
 pub mod math;
+pub mod measures;
 mod part;
 mod sine;
 pub mod solid;

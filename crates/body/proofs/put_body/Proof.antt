@@ -6,8 +6,8 @@ use lib.ListN.{length}
 use denote.Ref.{now}
 use Rattle.part.proofs.ReadableLaws.{readable-counts}
 use Rattle.solid.specs.Faces.{Checked}
-use Rattle.solid.proofs.BodyLaws.{readable-long, checked-readable}
-use Rattle.body.proofs.AnswerLaws.{checked-by, answer-refused, enough, answer-short, answer-put}
+use Rattle.solid.proofs.BodyLaws.{readable-long, is-checked, checked-readable}
+use Rattle.body.proofs.AnswerLaws.{answer-refused, enough, answer-short, answer-put}
 use Rattle.body.proofs.put_body.Statement.{statement}
 use Rattle.body.proofs.put_body.Tie as tie
 
@@ -22,7 +22,7 @@ returns c = answer-refused _ _ _ _ _ (c .before .before .judge .ensures) (c .bef
 
 -- the tests of 1 to 9 are past
 checked : (c : tie.Else1) → Checked (now (c .before .before .before .before .before .before .args .file))
-checked c = checked-by _ _ _ (c .before .before .judge .ensures) (c .before .refusal .ensures) (c .if1 .left)
+checked c = is-checked _ _ _ (c .before .before .judge .ensures) (c .before .refusal .ensures) (c .if1 .left)
 
 vertex-count-requires : tie.Need-vertex-count-requires
 vertex-count-requires c κs = readable-long _ (checked-readable _ (checked c))

@@ -1,0 +1,27 @@
+-- `holes::hole::follows` meets its contract.
+use native.Mathlib.Nat.{le-refl}
+use lib.Dec.{lit≤}
+use borrow.Author.Needs.{needs}
+use Rattle.holes.proofs.WholeLaws.{scaled-fits, follows-is}
+use Rattle.holes.proofs.hole.follows.Statement.{statement}
+use Rattle.holes.proofs.hole.follows.Tie as tie
+
+cross-requires : tie.Need-cross-requires
+cross-requires c κs = search needs
+
+dot-requires : tie.Need-dot-requires
+dot-requires c κs = search needs
+
+mul-result : tie.Need-mul-result
+mul-result c = scaled-fits 100000 (c .before .cross .result) (le-refl 100000) (c .before .cross .ensures .1)
+
+mul-result-2 : tie.Need-mul-result-2
+mul-result-2 c = scaled-fits 20271 (c .dot .result) (lit≤ tt) (c .dot .ensures .1)
+
+returns : tie.Need-returns
+returns c =
+    follows-is _ _ (c .before .cross .result) (c .dot .result) (c .before .cross .ensures .0) (c .before .cross .ensures .1)
+    (c .dot .ensures .0) (c .dot .ensures .1)
+
+pub follows-spec : {M : Type 1} → statement M
+follows-spec = tie.close (tie.spec cross-requires dot-requires mul-result mul-result-2 returns)

@@ -1,0 +1,4 @@
+-- Holes by directions in whole numbers.
+pub mod Direction
+pub mod GoesRound
+pub mod Cells

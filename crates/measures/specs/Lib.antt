@@ -1,0 +1,2 @@
+-- The readings and the rounds of a part file in the lent scratch.
+pub mod Measures

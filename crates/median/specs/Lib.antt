@@ -1,0 +1,2 @@
+-- The value at half the total weight.
+pub mod Median

@@ -1,0 +1,23 @@
+-- `ray::strike::Hit::time_or_zero` meets its contract.
+use borrow.Author.Needs.{needs}
+use mathlib.Core.Path.{ap, sym}
+use Rattle.ray.specs.Cast.{timeOrZero}
+use Rattle.ray.proofs.strike.Hit.time_or_zero.Statement.{statement}
+use Rattle.ray.proofs.strike.Hit.time_or_zero.Tie as tie
+
+enum-told : tie.Need-enum-told
+enum-told c = search needs
+
+enum-known-self : tie.Need-enum-known-self
+enum-known-self c = search needs
+
+returns : tie.Need-returns
+unfolding timeOrZero
+returns c = ap timeOrZero (sym (c .enum-told .given .1))
+
+returns-2 : tie.Need-returns-2
+unfolding timeOrZero
+returns-2 c = ap timeOrZero (sym (c .before .self .given .1))
+
+pub time-or-zero-spec : {M : Type 1} → statement M
+time-or-zero-spec = tie.close (tie.spec enum-told enum-known-self returns returns-2)

@@ -1,0 +1,5 @@
+-- What a ray strikes first.
+pub mod Corners
+pub mod Strike
+pub mod Nearest
+pub mod Cast

@@ -1,0 +1,17 @@
+-- `rounds::round::radius` meets its contract.
+use borrow.Author.Needs.{needs}
+use Rattle.rounds.proofs.SurfaceLaws.{radius-cylinder, radius-other}
+use Rattle.rounds.proofs.round.radius.Statement.{statement}
+use Rattle.rounds.proofs.round.radius.Tie as tie
+
+enum-known-surface : tie.Need-enum-known-surface
+enum-known-surface c = search needs
+
+returns : tie.Need-returns
+returns c = radius-cylinder _ _ _ _ (c .before .surface .given .1)
+
+returns-2 : tie.Need-returns-2
+returns-2 c = radius-other _ (c .match .keys2)
+
+pub radius-spec : {M : Type 1} → statement M
+radius-spec = tie.close (tie.spec enum-known-surface returns returns-2)

@@ -1,0 +1,121 @@
+-- The rounds of a part, by the part alone: `round`, `rounds` and `is_hole` of dfm.rs. Definitions only.
+use mathlib.Core.Bool.{Bool, true, false, _&&_, cond}
+use mathlib.Core.List.{List, [], _∷_, _++_}
+use Prim.Native.Nat.{ℕ, zero, suc}
+use lib.Dec.{eqb}
+use lib.Ieee.{Float, binary64, add, lt}
+use Rattle.math.specs.declared.Vec3.{Vec3}
+use Rattle.math.specs.Vector.{zeroVec}
+use Rattle.math.specs.Vector as vector
+use Rattle.part.specs.declared.read.SurfaceKind.{SurfaceKind}
+use Rattle.part.specs.declared.read.SurfaceKind.the-variants.{Plane, Cylinder, Revolved, Other}
+use Rattle.part.specs.Part.{Part}
+use Rattle.solid.specs.Polygon.{centroidOf}
+use Rattle.solid.specs.Faces.{facesOf, faceNumber, firstPolygon, polygonCorner, polygonPlane, polygonArea}
+use Rattle.holes.specs.declared.direction.Direction.{Direction}
+use Rattle.holes.specs.Direction.{goesRound}
+use Rattle.rounds.specs.declared.frame.Frame.{Frame}
+use Rattle.rounds.specs.declared.extent.Extent.{Extent}
+use Rattle.rounds.specs.declared.measure.Measure.{Measure}
+use Rattle.rounds.specs.declared.round.Round.{Round}
+use Rattle.rounds.specs.Frame.{frameOf, nowhere, runExtent, measureOf, voteOf, runDirections}
+
+-- ---- over the polygons of face f that are below n, rising: each step adds polygon q, where it is of face f
+unfoldable pub extentWith : Part → ℕ → Frame → ℕ → Extent → Extent
+extentWith t f a q e = cond (eqb (faceNumber t q) f) (runExtent a (polygonCorner t q) e (t .polygon q .count)) e
+
+unfoldable pub extentTo : Part → ℕ → Frame → ℕ → Extent
+extentTo t f a zero = nowhere
+extentTo t f a (suc n) = extentWith t f a n (extentTo t f a n)
+
+-- polygon p's part in the votes: its normal, dfm.rs's own centroid, and its area
+unfoldable pub polygonVote : Part → Frame → ℕ → Float
+polygonVote t a p = voteOf a (polygonPlane t p .normal) (centroidOf (polygonCorner t p) (t .polygon p .count)) (polygonArea t p)
+
+unfoldable pub votesWith : Part → ℕ → Frame → ℕ → Float → Float
+votesWith t f a q votes = cond (eqb (faceNumber t q) f) (add binary64 votes (polygonVote t a q)) votes
+
+unfoldable pub votesTo : Part → ℕ → Frame → ℕ → Float
+votesTo t f a zero = vector.zero
+votesTo t f a (suc n) = votesWith t f a n (votesTo t f a n)
+
+unfoldable pub directionsWith : Part → ℕ → Frame → ℕ → List Direction → List Direction
+directionsWith t f a q before = cond (eqb (faceNumber t q) f) (before ++ runDirections a (polygonCorner t q) (t .polygon q .count)) before
+
+unfoldable pub directionsTo : Part → ℕ → Frame → ℕ → List Direction
+directionsTo t f a zero = []
+directionsTo t f a (suc n) = directionsWith t f a n (directionsTo t f a n)
+
+-- ---- "A face's surface is that of its first polygon"
+unfoldable pub faceSurface : Part → ℕ → SurfaceKind
+faceSurface t f = t .polygon (firstPolygon t f) .surface
+
+unfoldable pub isCylinder : SurfaceKind → Bool
+isCylinder Plane = false
+isCylinder (Cylinder o d r) = true
+isCylinder (Revolved o d) = false
+isCylinder Other = false
+
+-- origin, direction and radius of a cylinder; of the other surfaces, of which they are not asked, zeros
+unfoldable pub originOf : SurfaceKind → Vec3
+originOf Plane = zeroVec
+originOf (Cylinder o d r) = o
+originOf (Revolved o d) = zeroVec
+originOf Other = zeroVec
+
+unfoldable pub dirOf : SurfaceKind → Vec3
+dirOf Plane = zeroVec
+dirOf (Cylinder o d r) = d
+dirOf (Revolved o d) = zeroVec
+dirOf Other = zeroVec
+
+unfoldable pub radiusOf : SurfaceKind → Float
+radiusOf Plane = vector.zero
+radiusOf (Cylinder o d r) = r
+radiusOf (Revolved o d) = vector.zero
+radiusOf Other = vector.zero
+
+-- ---- a face as a round
+unfoldable pub isRound : Part → ℕ → Bool
+isRound t f = isCylinder (faceSurface t f)
+
+unfoldable pub faceFrame : Part → ℕ → Frame
+faceFrame t f = frameOf (originOf (faceSurface t f)) (dirOf (faceSurface t f))
+
+-- axis, length and centre
+unfoldable pub faceMeasure : Part → ℕ → Measure
+faceMeasure t f = measureOf (faceFrame t f) (extentTo t f (faceFrame t f) (t .polygons))
+
+-- "True when the material is outside the cylinder": `votes < 0.0`
+unfoldable pub isConcave : Part → ℕ → Bool
+isConcave t f = lt (votesTo t f (faceFrame t f) (t .polygons)) vector.zero
+
+-- "over all vertices of all its polygons, repeats included"
+unfoldable pub directionsOf : Part → ℕ → List Direction
+directionsOf t f = directionsTo t f (faceFrame t f) (t .polygons)
+
+-- "A concave round is a hole by directions"
+unfoldable pub isHole : Part → ℕ → Bool
+isHole t f = isConcave t f && goesRound (directionsOf t f)
+
+-- the round of a face whose surface is a cylinder
+unfoldable pub roundOf : Part → ℕ → Round
+roundOf t f =
+    record {
+      face = f;
+      origin = originOf (faceSurface t f);
+      axis = faceMeasure t f .axis;
+      radius = radiusOf (faceSurface t f);
+      concave = isConcave t f;
+      hole = isHole t f;
+      length = faceMeasure t f .length;
+      centre = faceMeasure t f .centre;
+    }
+
+-- ---- `rounds`: of the faces below n that are rounds, in the faces' order
+unfoldable pub roundsTo : Part → ℕ → List Round
+roundsTo t zero = []
+roundsTo t (suc f) = cond (isRound t f) (roundsTo t f ++ (roundOf t f ∷ [])) (roundsTo t f)
+
+unfoldable pub roundsOf : Part → List Round
+roundsOf t = roundsTo t (facesOf t)

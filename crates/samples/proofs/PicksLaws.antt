@@ -1,0 +1,164 @@
+-- The picks of a face, face by face: one more at a time, and how many readings there are at most.
+use mathlib.Core.Path.{_≡_, refl, sym, ap, _∙_, subst}
+use mathlib.Core.Bool.{Bool, true, false, _&&_, cond}
+use mathlib.Core.List.{List, [], _++_}
+use mathlib.Core.Logic.{_⊎_, inl, inr}
+use Prim.Native.Nat.{ℕ, zero, suc, _+_, _*_, _/_, _≤_, _<_}
+use native.Mathlib.Omega.{arith}
+use native.Mathlib.Numerals.{add-one}
+use native.Mathlib.Nat.{le-antisymm, div-le-self, mul-le-mul-right, mul-le-mul-left, mul-one, le-trans, add-mul}
+use lib.Dec.{eqb, ltb}
+use lib.ListN.{length, getD, length-append}
+use borrow.Author.Tests.{ltb-false, lt-ltb, le-ltb, eq-eqb, ne-eqb}
+use Rattle.float.proofs.Tests.{contrary, lt-or-ge}
+use Rattle.part.specs.Part.{Part}
+use Rattle.solid.specs.Faces.{firstOf, isNew, faceCount, facesOf, faceNumber}
+use Rattle.solid.proofs.FaceLaws.{count-start, count-new, count-old, count-passes, number-new, number-first, first-le, first-new, is-new}
+use Rattle.ray.specs.declared.strike.Hit.{Hit}
+use Rattle.ray.specs.declared.strike.Hit.the-variants.{At, Nothing}
+use Rattle.ray.specs.Nearest.{hitOf}
+use Rattle.starts.specs.Starts.{wanted, facePolygons, orderedPolygons, stepOf}
+use Rattle.starts.proofs.ShareLaws.{step-least}
+use Rattle.starts.proofs.OrderLaws.{ordered-length, lengths-more, lengths-within}
+use Rattle.starts.specs.Kept.{NumbersFrom, lengthsTo}
+use Rattle.samples.specs.Samples.{Reading, rayOf, backHit, taken, readingsFrom, picksTo, faceReadings, readingsTo}
+use Rattle.samples.specs.Stored.{Counted}
+use Rattle.samples.proofs.CastLaws.{readings-from}
+
+-- ---- the step
+pub step-most : (n want : ℕ) → n / want ≤ n + 1
+step-most n want = omega (arith, div-le-self n want)
+
+-- a step is one place at least
+pub step-up : (i step : ℕ) → 1 ≤ step → i ≤ i * step
+step-up i step h = subst (λ (k : ℕ). k ≤ i * step) (mul-one i) (mul-le-mul-left i h)
+
+pub step-next : (i step : ℕ) → i * step + step ≡ (i + 1) * step
+step-next i step = omega (arith, add-mul i 1 step)
+
+-- ---- one pick more
+taken-few : (p : ℕ) (h : Hit) → length (taken p h) ≤ 1
+unfolding taken
+taken-few p (At q s) = omega arith
+taken-few p Nothing = omega arith
+
+pub reading-few : (t : Part) (q : ℕ) → length (readingsFrom t q) ≤ 1
+reading-few t q =
+    subst (λ (l : List Reading). length l ≤ 1) (sym (readings-from t q (backHit t q (hitOf t (rayOf t q))) refl))
+    (taken-few q (backHit t q (hitOf t (rayOf t q))))
+
+module _ (t : Part) (order : List ℕ) (step : ℕ) where
+  pub picks-none : picksTo t order step 0 ≡ []
+  unfolding picksTo
+  picks-none = refl
+
+  picks-suc : (n : ℕ) → picksTo t order step (suc n) ≡ cond (ltb (n * step) (length order)) (picksTo t order step n ++ readingsFrom t (getD order (n * step) 0)) (picksTo t order step n)
+  unfolding picksTo
+  picks-suc n = refl
+
+  pub picks-more : (n : ℕ) → n * step < length order → picksTo t order step (n + 1) ≡ picksTo t order step n ++ readingsFrom t (getD order (n * step) 0)
+  picks-more n l = rw (add-one, picks-suc n, lt-ltb (n * step) (length order) l)
+
+  pub picks-past : (n : ℕ) → length order ≤ n * step → picksTo t order step (n + 1) ≡ picksTo t order step n
+  picks-past n l = rw (add-one, picks-suc n, le-ltb (n * step) (length order) l)
+
+  -- past the last polygon none are added
+  picks-stop : (i n : ℕ) → length order ≤ i * step → i ≤ n → picksTo t order step n ≡ picksTo t order step i
+  picks-stop i zero l h = let same : 0 ≡ i = omega (arith, h) in ap (picksTo t order step) same
+  picks-stop i (suc n) l h = go (picks-stop i n l) (lt-or-ge n i)
+    where
+      go : (i ≤ n → picksTo t order step n ≡ picksTo t order step i) → (n < i) ⊎ (i ≤ n) → picksTo t order step (suc n) ≡ picksTo t order step i
+      go before (inl below) = let same : suc n ≡ i = omega (arith, below, h) in ap (picksTo t order step) same
+      go before (inr above) = ap (picksTo t order step) (sym (add-one n)) ∙ picks-past n (le-trans l (mul-le-mul-right step above)) ∙ before above
+
+  -- where the loop ends, all are there
+  pub picks-all : (i want n : ℕ) → n ≡ length order → i ≤ want → (ltb i want && ltb (i * step) n) ≡ false → picksTo t order step i ≡ picksTo t order step want
+  picks-all i want n e h k = go (lt-or-ge i want)
+    where
+      go : (i < want) ⊎ (want ≤ i) → picksTo t order step i ≡ picksTo t order step want
+      go (inl below) =
+          let past : ltb (i * step) n ≡ false = sym (rw (lt-ltb i want below) refl) ∙ k in
+          sym (picks-stop i want (omega (arith, e, ltb-false (i * step) n past)) h)
+      go (inr above) = ap (picksTo t order step) (le-antisymm h above)
+
+  -- no more readings than picks, nor than polygons
+  pub picks-few : (n : ℕ) → 1 ≤ step → (length (picksTo t order step n) ≤ n) × (length (picksTo t order step n) ≤ length order)
+  picks-few zero h = (omega (arith, ap length picks-none), omega (arith, ap length picks-none))
+  picks-few (suc n) h =
+      subst (λ (k : ℕ). (length (picksTo t order step k) ≤ k) × (length (picksTo t order step k) ≤ length order)) (add-one n)
+      (go (picks-few n h) (lt-or-ge (n * step) (length order)))
+    where
+      go : (length (picksTo t order step n) ≤ n) × (length (picksTo t order step n) ≤ length order) → (n * step < length order) ⊎ (length order ≤ n * step) →
+          (length (picksTo t order step (n + 1)) ≤ n + 1) × (length (picksTo t order step (n + 1)) ≤ length order)
+      go before (inl below) =
+          let last = readingsFrom t (getD order (n * step) 0) in
+          let long : length (picksTo t order step (n + 1)) ≡ length (picksTo t order step n) + length last = ap length (picks-more n below) ∙ length-append (picksTo t order step n) last in
+          let one = reading-few t (getD order (n * step) 0) in
+          (omega (arith, long, one, before .0), omega (arith, long, one, before .0, below, step-up n step h))
+      go before (inr above) = let same = ap length (picks-past n above) in (omega (arith, same, before .0), omega (arith, same, before .1))
+
+-- ---- face by face
+pub readings-none : (t : Part) → readingsTo t 0 ≡ []
+unfolding readingsTo
+readings-none t = refl
+
+readings-suc : (t : Part) (f : ℕ) → readingsTo t (suc f) ≡ readingsTo t f ++ faceReadings t f
+unfolding readingsTo
+readings-suc t f = refl
+
+pub readings-more : (t : Part) (f : ℕ) → readingsTo t (f + 1) ≡ readingsTo t f ++ faceReadings t f
+readings-more t f = rw (add-one, readings-suc t f)
+
+-- no more than polygons
+face-few : (t : Part) (f : ℕ) → length (faceReadings t f) ≤ length (facePolygons t f)
+unfolding faceReadings
+face-few t f =
+    omega (arith, picks-few t (orderedPolygons t f) (stepOf (length (orderedPolygons t f)) (wanted t f)) (wanted t f) (step-least _ _) .1, ordered-length t f)
+
+pub readings-few : (t : Part) (f : ℕ) → length (readingsTo t f) ≤ lengthsTo t f
+readings-few t zero = omega (arith, ap length (readings-none t))
+readings-few t (suc f) =
+    subst (λ (k : ℕ). length (readingsTo t k) ≤ lengthsTo t k) (add-one f)
+    (omega (arith, readings-few t f, face-few t f, lengths-more t f, ap length (readings-more t f), length-append (readingsTo t f) (faceReadings t f)))
+
+-- the readings of face f have their places after those of the faces before it
+pub readings-room : (t : Part) (f : ℕ) → length (readingsTo t f) + length (facePolygons t f) ≤ t .polygons
+readings-room t f = omega (arith, readings-few t f, lengths-more t f, lengths-within t (f + 1))
+
+-- ---- how many faces there are
+-- by the polygons below q
+pub record CountedTo (l : List ℕ) (faces p q n : ℕ) : Type 0 where
+  pub is : (t : Part) → p ≡ t .polygons → NumbersFrom t p l faces → n ≡ faceCount t q
+
+number-old : (t : Part) (q : ℕ) → isNew t q ≡ false → faceNumber t q ≡ faceCount t q → ⊥
+number-old t q h e = go (lt-or-ge (firstOf t q) q)
+  where
+    go : (firstOf t q < q) ⊎ (q ≤ firstOf t q) → ⊥
+    go (inl below) = omega (arith, count-passes t (firstOf t q) q below (first-new t q), number-first t q, e)
+    go (inr above) = contrary (is-new t q (omega (arith, above, first-le t q))) h
+
+count-next : (t : Part) (q f n : ℕ) (b : Bool) → isNew t q ≡ b → f ≡ faceNumber t q → n ≡ faceCount t q → cond (eqb f n) (n + 1) n ≡ faceCount t (q + 1)
+count-next t q f n true h ef en =
+    let same : eqb f n ≡ true = eq-eqb f n (ef ∙ number-new t q h ∙ sym en) in
+    rw (same, count-new t q h, en)
+count-next t q f n false h ef en =
+    let other : eqb f n ≡ false = ne-eqb f n (λ z. number-old t q h (sym ef ∙ z ∙ en)) in
+    rw (other, count-old t q h, en)
+
+pub counted-none : (l : List ℕ) (faces p : ℕ) → CountedTo l faces p 0 0
+counted-none l faces p = record { is = λ t e h. count-start t }
+
+pub counted-more : (l : List ℕ) (faces p q f n r : ℕ) → q < p → f ≡ getD l (faces + q) 0 → r ≡ cond (eqb f n) (n + 1) n → CountedTo l faces p q n → CountedTo l faces p (q + 1) r
+counted-more l faces p q f n r low ef er h = record { is = λ t e k. er ∙ count-next t q f n (isNew t q) refl (ef ∙ k .each q low) (h .is t e k) }
+
+pub counted-all : (l : List ℕ) (faces p q n : ℕ) → q ≤ p → p ≤ q → CountedTo l faces p q n → Counted l faces p n
+unfolding facesOf
+counted-all l faces p q n a b h = record { is = λ t e k. h .is t e k ∙ ap (faceCount t) (le-antisymm a b ∙ e) }
+
+-- at most one face more
+pub count-few : (f n q r : ℕ) → r ≡ cond (eqb f n) (n + 1) n → n ≤ q → r ≤ q + 1
+count-few f n q r e h = omega (arith, e, step (eqb f n))
+  where
+    step : (b : Bool) → cond b (n + 1) n ≤ q + 1
+    step true = omega (arith, h)
+    step false = omega (arith, h)

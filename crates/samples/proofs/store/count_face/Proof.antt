@@ -1,0 +1,17 @@
+-- `samples::store::count_face` meets its contract.
+use borrow.Author.Needs.{needs}
+use borrow.Author.Tests.{eq-eqb, ne-eqb}
+use Rattle.samples.proofs.store.count_face.Statement.{statement}
+use Rattle.samples.proofs.store.count_face.Tie as tie
+
+add-result : tie.Need-add-result
+add-result c = search needs
+
+returns : tie.Need-returns
+returns c = rw (eq-eqb _ _ (c .if1 .taken))
+
+returns-2 : tie.Need-returns-2
+returns-2 c = rw (ne-eqb _ _ (c .if1 .left))
+
+pub count-face-spec : {M : Type 1} → statement M
+count-face-spec = tie.close (tie.spec add-result returns returns-2)

@@ -1,0 +1,3 @@
+-- Thickness readings, and how the lent scratch holds them.
+pub mod Samples
+pub mod Stored

@@ -1,0 +1,2 @@
+-- What the laws on sizes speak of.
+pub mod Sizes

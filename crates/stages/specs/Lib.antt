@@ -1,0 +1,2 @@
+-- One stage of the body alone.
+pub mod Stage

@@ -1,0 +1,127 @@
+-- The polygons of a face after they are gathered and sorted.
+use mathlib.Core.Path.{_≡_, sym, ap, _∙_}
+use mathlib.Core.Bool.{false}
+use mathlib.Core.List.{List}
+use Prim.Native.Nat.{ℕ, _+_, _*_, _-_, _≤_, _<_}
+use native.Mathlib.Omega.{arith}
+use lib.Dec.{eqb}
+use lib.ListN.{length, getD, take}
+use lib.Seq.{ext-getD, getD-take, getD-drop, length-take-le}
+use lib.Ieee.{Float, isNan}
+use borrow.Rule.Slice.PartMut.{putMid, drop-put}
+use Rattle.ranges.specs.Region.{part}
+use Rattle.ranges.proofs.Regions.{part-length, put-length, part-place, put-before, put-inside}
+use Rattle.part.specs.Part.{Part}
+use Rattle.sorting.specs.Sorted.{keyOf, Numbered, NoNan, SortedBy, inOrder}
+use Rattle.sorting.proofs.InOrder.{sorted-is}
+use Rattle.sorting.proofs.Falling.{neg-nan}
+use Rattle.starts.specs.Starts.{facePolygons, fallingTo, orderedPolygons}
+use Rattle.starts.specs.Kept.{passing, keptAs, NumbersFrom, KeptFalling, AreaNumbers, Room, Gathered, Ordered}
+use Rattle.starts.proofs.PassingLaws.{passing-each, passing-same}
+use Rattle.starts.proofs.OrderLaws.{isOf, polygons-are, face-each, falling-at, in-order-keys}
+
+-- a place after the part that was put
+put-after : {X : Type 0} (a e : ℕ) (s x : List X) (d : X) → a ≤ e → e ≤ length s → length x ≡ e - a → (i : ℕ) → e ≤ i
+    → getD (putMid a (e - a) s x) i d ≡ getD s i d
+put-after {X} a e s x d g h l i r =
+    let place : i ≡ e + (i - e) = omega (arith, r) in
+    let new = putMid a (e - a) s x in
+    ap (λ (k : ℕ). getD new k d) place ∙ sym (getD-drop e new (i - e) d)
+    ∙ ap (λ (z : List X). getD z (i - e) d) (drop-put a e s x g h l)
+    ∙ getD-drop e s (i - e) d ∙ ap (λ (k : ℕ). getD s k d) (sym place)
+
+module _ (keys : List Float) (old mid : List ℕ) (faces order p f n : ℕ) (room : Room old faces order p) (inside : p ≤ length keys)
+    (g : Gathered old mid faces order f p n) where
+  -- the part that is lent
+  abbrev lent : List ℕ
+  lent = part order (order + 2 * n) mid
+
+  end-inside : order + 2 * n ≤ length mid
+  end-inside = omega (arith, room .inside, g .most, g .long)
+
+  pub lent-length : length lent ≡ 2 * n
+  lent-length = part-length order (order + 2 * n) mid end-inside ∙ (omega arith)
+
+  lent-at : (i : ℕ) → i < n → getD lent i 0 ≡ getD (passing (keptAs old faces f) p) i 0
+  lent-at i l = part-place order (order + 2 * n) mid 0 i (omega (arith, l)) ∙ g .each i l
+
+  lent-below : (i : ℕ) → i < n → getD lent i 0 < p
+  lent-below i l = omega (arith, lent-at i l, passing-each (keptAs old faces f) p i (omega (arith, l, g .count)) .below)
+
+  pub lent-numbered : Numbered keys lent 0 n
+  lent-numbered = record { has = λ i a l. omega (arith, lent-below i l, inside) }
+
+  take-lent : take n lent ≡ passing (keptAs old faces f) p
+  take-lent =
+      let long : length (take n lent) ≡ n = length-take-le n lent (omega (arith, lent-length)) in
+      ext-getD 0 (take n lent) (passing (keptAs old faces f) p) (long ∙ g .count)
+      (λ i h.
+      let l : i < n = omega (arith, h, long) in
+      getD-take n lent i 0 l ∙ lent-at i l)
+
+  -- the list of a part that the slice holds
+  module _ (t : Part) (e : p ≡ t .polygons) (numbers : NumbersFrom t p old faces) where
+    passing-face : passing (keptAs old faces f) p ≡ facePolygons t f
+    unfolding keptAs
+    passing-face =
+        passing-same (keptAs old faces f) (isOf t f) p (λ q l. ap (λ (k : ℕ). eqb k f) (numbers .each q l))
+        ∙ ap (passing (isOf t f)) e ∙ sym (polygons-are t f)
+
+    count-is : n ≡ length (facePolygons t f)
+    count-is = g .count ∙ ap length passing-face
+
+    module _ (falling : KeptFalling t p keys) (areas : AreaNumbers t) where
+      plain : NoNan keys lent n
+      plain = record { is = go }
+        where
+          go : (i : ℕ) → i < n → isNan (keyOf keys (getD lent i 0)) ≡ false
+          go i l =
+              let low = lent-below i l in
+              ap isNan (falling .each (getD lent i 0) low) ∙ neg-nan _ ∙ areas .each (getD lent i 0) (omega (arith, low, e))
+
+      order-is : inOrder keys (facePolygons t f) ≡ orderedPolygons t f
+      unfolding orderedPolygons
+      order-is =
+          in-order-keys p keys (fallingTo t (t .polygons))
+          (λ q l. falling .each q l ∙ sym (falling-at t (t .polygons) q (omega (arith, l, e))))
+          (facePolygons t f)
+          (λ i l. omega (arith, e, face-each t f i l .below))
+
+      sorted-list : (y : List ℕ) → length y ≡ length lent → SortedBy keys n lent y → take n y ≡ orderedPolygons t f
+      sorted-list y long sorted =
+          sorted-is keys n lent y sorted plain (omega (arith, lent-length)) (omega (arith, lent-length, long))
+          ∙ ap (inOrder keys) (take-lent ∙ passing-face) ∙ order-is
+
+  -- what comes back
+  module _ (y : List ℕ) (long : length y ≡ length lent) (sorted : SortedBy keys n lent y) where
+    abbrev new : List ℕ
+    new = putMid order (order + 2 * n - order) mid y
+
+    y-long : length y ≡ order + 2 * n - order
+    y-long = omega (arith, long, lent-length)
+
+    pub new-long : length new ≡ length mid
+    new-long = put-length order (order + 2 * n) mid y end-inside y-long
+
+    front : part order (order + n) new ≡ take n y
+    front =
+        let here : length (part order (order + n) new) ≡ n
+        = part-length order (order + n) new (omega (arith, new-long, end-inside)) ∙ (omega arith) in
+        ext-getD 0 (part order (order + n) new) (take n y) (here ∙ sym (length-take-le n y (omega (arith, long, lent-length))))
+        (λ i h.
+        let l : i < n = omega (arith, h, here) in
+        let place : order + i - order ≡ i = omega arith in
+        part-place order (order + n) new 0 i (omega (arith, l))
+        ∙ put-inside order (order + 2 * n - order) mid y 0 (omega (arith, end-inside)) (order + i) (omega arith) (omega (arith, l, long, lent-length))
+        ∙ ap (λ (k : ℕ). getD y k 0) place ∙ sym (getD-take n y i 0 l))
+
+    pub ordered-all : Ordered keys old new faces order p f n
+    ordered-all =
+        record {
+          most = g .most;
+          count = count-is;
+          is = λ t e numbers falling areas. front ∙ sorted-list t e numbers falling areas y long sorted;
+          below = λ i l. put-before order (order + 2 * n - order) mid y 0 (omega (arith, end-inside)) i l ∙ g .below i l;
+          above = λ i l. put-after order (order + 2 * n) mid y 0 (omega arith) end-inside y-long i (omega (arith, l, g .most)) ∙ g .above i (omega (arith, l, g .most));
+          long = new-long ∙ g .long;
+        }

@@ -1,0 +1,47 @@
+//! What the Rust measures of a body: its thickness readings, its rounds, and what a ray hits; each list in the Rust's own order.
+use crate::dfm;
+pub use crate::dfm::{Hit, Sample};
+use crate::math::Vec3;
+use crate::solid::{FaceId, Solid};
+
+/// All fields of the Rust's own but `coverage`, for which the test stands that it is there for.
+pub struct Round {
+    pub id: FaceId,
+    pub origin: Vec3,
+    pub axis: Vec3,
+    pub radius: f64,
+    pub concave: bool,
+    /// dfm.rs `is_hole`.
+    pub hole: bool,
+    pub length: f64,
+    pub centre: Vec3,
+}
+
+pub struct Measures<'a>(dfm::Part<'a>);
+
+impl Measures<'_> {
+    pub fn of(solid: &Solid) -> Measures<'_> {
+        Measures(dfm::Part::new(solid))
+    }
+
+    pub fn faces(&self) -> usize {
+        self.0.faces.len()
+    }
+
+    pub fn readings(&self) -> Vec<Sample> {
+        self.0.thickness_samples()
+    }
+
+    pub fn rounds(&self) -> Vec<Round> {
+        let round = |r: dfm::Round| {
+            let hole = dfm::counts_as_hole(&r);
+            let dfm::Round { id, origin, axis, radius, concave, length, centre, .. } = r;
+            Round { id, origin, axis, radius, concave, hole, length, centre }
+        };
+        self.0.rounds().into_iter().map(round).collect()
+    }
+
+    pub fn hit(&self, origin: Vec3, dir: Vec3) -> Option<Hit> {
+        self.0.bvh.raycast(self.0.body, origin, dir)
+    }
+}

@@ -1,0 +1,113 @@
+//! Rays for a body: at random, and at what is hard: vertices, sides and the tolerance beside them, along faces, from a face itself, with zeros of
+//! both signs, and numbers that no caller should pass.
+use crate::definition::{centroid, cross, length, minus, plane};
+use crate::field::ODD;
+use crate::mesh::{Mesh, Point, Polygon};
+use crate::random::Random;
+use crate::shapes::{nudge, pick};
+
+type Ray = [Point; 2];
+
+/// So many rays of six numbers: origin, direction.
+pub fn rays(random: &mut Random, mesh: &Mesh, count: usize) -> Vec<f64> {
+    let (low, high) = bounds(mesh);
+    (0..count).flat_map(|_| draw(random, mesh, low, high).concat()).collect()
+}
+
+fn draw(random: &mut Random, mesh: &Mesh, low: Point, high: Point) -> Ray {
+    let from = [0, 1, 2].map(|k| low[k] - 1.0 + unit(random) * (high[k] - low[k] + 2.0));
+    if mesh.polygons.is_empty() {
+        return [from, any(random)];
+    }
+    let polygon = &mesh.polygons[random.below(mesh.polygons.len() as u64) as usize];
+    let points = &polygon.points;
+    let k = random.below(points.len() as u64) as usize;
+    let (a, b) = (points[k], points[(k + 1) % points.len()]);
+    match random.below(16) {
+        0 | 1 => [from, any(random)],
+        2 => [from, minus(a, from)],
+        3 => [from, minus(between(a, b, pick(random, &[0.5, 0.25, 0.3])), from)],
+        4 | 5 => [from, minus(beside(random, polygon, a, b), from)],
+        6 | 7 => straight(random, polygon, a),
+        8 => [between(a, b, pick(random, &[-1.0, 0.0, 0.5, 2.0])), minus(b, a)],
+        9 => nearly_along(random, polygon, a, b),
+        10 | 11 => from_face(random, polygon),
+        12 => [a, any(random)],
+        13 => [a, minus(centroid(points), a)],
+        14 => {
+            let by = pick(random, &[1e-12, 1e-11, 1e-6, 1e6, 1e12]);
+            [from, minus(centroid(points), from).map(|c| c * by)]
+        }
+        _ => odd(random, from),
+    }
+}
+
+fn bounds(mesh: &Mesh) -> (Point, Point) {
+    let over = |start: f64, f: fn(f64, f64) -> f64| [0, 1, 2].map(|k| mesh.points().fold(start, |c, p| f(c, p[k])));
+    if mesh.polygons.is_empty() {
+        return ([0.0; 3], [0.0; 3]);
+    }
+    (over(f64::MAX, f64::min), over(f64::MIN, f64::max))
+}
+
+fn unit(random: &mut Random) -> f64 {
+    (random.next() >> 11) as f64 / (1u64 << 53) as f64
+}
+
+fn any(random: &mut Random) -> Point {
+    [0; 3].map(|_| unit(random) * 2.0 - 1.0)
+}
+
+fn between(a: Point, b: Point, share: f64) -> Point {
+    [0, 1, 2].map(|k| a[k] + (b[k] - a[k]) * share)
+}
+
+fn moved(p: Point, by: Point, times: f64) -> Point {
+    [0, 1, 2].map(|k| p[k] + by[k] * times)
+}
+
+fn normal(polygon: &Polygon) -> Point {
+    let [x, y, z, _] = plane(polygon).map(f64::from_bits);
+    [x, y, z]
+}
+
+/// A point in the polygon's plane about as far outside a side as the tolerance of the side test lets pass, which is 1e-9 over the side's length.
+fn beside(random: &mut Random, polygon: &Polygon, a: Point, b: Point) -> Point {
+    let outward = cross(minus(b, a), normal(polygon));
+    let square = length(outward) * length(outward);
+    let off = pick(random, &[1e-9, 0.9e-9, 1.1e-9, 0.99e-9, 1.01e-9, -1e-9, 2e-9, 1e-10, 1e-6]) / square;
+    moved(between(a, b, unit(random)), outward, off)
+}
+
+/// Along one axis or two, with zeros of both signs, through a vertex or the middle.
+fn straight(random: &mut Random, polygon: &Polygon, a: Point) -> Ray {
+    let mut dir = [0; 3].map(|_| pick(random, &[0.0, -0.0]));
+    (0..1 + random.below(2)).for_each(|_| dir[random.below(3) as usize] = pick(random, &[1.0, -1.0, 0.5]));
+    let target = if random.below(2) == 0 { a } else { centroid(&polygon.points) };
+    let back = pick(random, &[0.0, 1.0, 5.0, 100.0, -1.0, 1e-9, 1e-6]);
+    [moved(target, dir, -back), dir]
+}
+
+/// Along a side and a little out of the plane: about where a ray counts as parallel.
+fn nearly_along(random: &mut Random, polygon: &Polygon, a: Point, b: Point) -> Ray {
+    let normal = normal(polygon);
+    let out = pick(random, &[1e-12, 0.9e-12, 1.1e-12, 2e-12, 1e-11, 1e-9]);
+    let start = moved(between(a, b, unit(random)), normal, -pick(random, &[0.0, 1e-12, 1e-9]));
+    [start, moved(minus(b, a), normal, out)]
+}
+
+/// From the centroid, inward or outward, from on the face or a little beside it.
+fn from_face(random: &mut Random, polygon: &Polygon) -> Ray {
+    let normal = normal(polygon);
+    let start = moved(centroid(&polygon.points), normal, pick(random, &[0.0, 0.0, 1e-6, -1e-6, 1e-4, -1e-4, 1e-12, -1e-12]));
+    [start.map(|c| nudge(random, c)), normal.map(|c| c * pick(random, &[-1.0, 1.0]))]
+}
+
+/// Infinities, NaN, the largest and the least in some places.
+fn odd(random: &mut Random, from: Point) -> Ray {
+    let mut ray = [from, any(random)];
+    for _ in 0..1 + random.below(3) {
+        ray[random.below(2) as usize][random.below(3) as usize] = f64::from_bits(pick(random, &ODD));
+    }
+    ray
+}

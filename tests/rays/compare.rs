@@ -1,0 +1,280 @@
+//! One file: readings, rounds and the hits of rays beside the oracle's, and beside the definitions where the body is small.
+use crate::against;
+use crate::aim;
+use crate::found::{self, Reading, Round, CONCAVE, CONVEX, HOLE};
+use crate::gablemadder;
+use crate::layout::Layout;
+use crate::mesh::{Mesh, Point};
+use crate::random::Random;
+use crate::regions::{same, Regions};
+use crate::scratch::Scratch;
+use crate::tally::Tally;
+use crate::tried::{Noted, Tried};
+use oracle::math::v3;
+use oracle::measures::Measures;
+
+/// Up to so many vertices everything is tried with everything.
+const SMALL: usize = 400;
+
+/// How often each thing occurred that the comparison is to see.
+#[derive(Default)]
+pub struct Seen {
+    /// By the oracle's answer, 0 to 9.
+    pub answers: [u64; 10],
+    pub by_definition: u64,
+    pub readings: u64,
+    /// Rounds by kind.
+    pub convex: u64,
+    pub concave: u64,
+    pub holes: u64,
+    pub rays: u64,
+    pub hits: u64,
+    /// Hits at t of zero, of either sign; rays that strike several at the smallest t.
+    pub at_zero: u64,
+    pub ties: u64,
+    /// Bodies whose polygons have no area.
+    pub no_area: u64,
+    pub noted: Noted,
+}
+
+pub struct Compare {
+    pub tally: Tally,
+    pub seen: Seen,
+    random: Random,
+    words: Scratch<u32>,
+    reals: Scratch<f64>,
+    planes: Scratch<f64>,
+    polygons: Scratch<u32>,
+    times: Scratch<f64>,
+    lent: Vec<u8>,
+}
+
+type Call = fn(&[u8], &mut [u32], &mut [f64]) -> u32;
+
+const CALLS: [(&str, Call); 2] = [("samples", gablemadder::samples), ("rounds", gablemadder::rounds)];
+
+impl Compare {
+    pub fn new(seed: u64) -> Compare {
+        Compare {
+            tally: Tally::default(),
+            seen: Seen::default(),
+            random: Random(seed),
+            words: Scratch::new(),
+            reals: Scratch::new(),
+            planes: Scratch::new(),
+            polygons: Scratch::new(),
+            times: Scratch::new(),
+            lent: Vec::new(),
+        }
+    }
+
+    /// The oracle's answer.
+    pub fn check(&mut self, file: &[u8], what: impl FnOnce() -> String) -> u32 {
+        self.lent.clear();
+        self.lent.extend_from_slice(file);
+        let body = oracle::body(file);
+        let answer = body.as_ref().err().copied().unwrap_or(0);
+        self.seen.answers[answer as usize] += 1;
+        let result = match body {
+            Err(number) => self.refused(number),
+            Ok(solid) => self.accepted(file, &Measures::of(&solid)),
+        };
+        let result = if self.lent == file { result } else { Err("the file is changed".into()) };
+        self.tally.check(result.is_ok(), || format!("{} ({} bytes): {}", what(), file.len(), result.unwrap_err()));
+        answer
+    }
+
+    /// Refusals 1 to 9 come before 10, so what is lent may be anything.
+    fn refused(&mut self, number: u32) -> Result<(), String> {
+        let n = self.random.below(64) as usize;
+        self.lend(n, n, n);
+        for (name, call) in CALLS {
+            let ours = call(&self.lent, self.words.cells(), self.reals.cells());
+            self.is_refusal(name, ours, number)?;
+        }
+        self.lend_for_rays(n, n, n);
+        let rays = vec![0.5; 6 * n];
+        let ours = gablemadder::raycast(&self.lent, self.planes.cells(), &rays, self.polygons.cells(), self.times.cells());
+        self.is_refusal_of_rays("raycast", ours, number)
+    }
+
+    /// So many cells, with any garbage.
+    fn lend(&mut self, words: usize, reals: usize, small: usize) {
+        let kinds = [0; 2].map(|_| self.random.below(4) as usize);
+        self.words.lend(words, kinds[0], small, &mut self.random);
+        self.reals.lend(reals, kinds[1], small, &mut self.random);
+    }
+
+    fn lend_for_rays(&mut self, planes: usize, polygons: usize, times: usize) {
+        let kinds = [0; 3].map(|_| self.random.below(4) as usize);
+        self.planes.lend(planes, kinds[0], planes, &mut self.random);
+        self.polygons.lend(polygons, kinds[1], planes, &mut self.random);
+        self.times.lend(times, kinds[2], planes, &mut self.random);
+    }
+
+    /// This answer, and no cell changed.
+    fn is_refusal(&self, call: &str, ours: u32, number: u32) -> Result<(), String> {
+        is_refusal(call, ours, number, self.words.is_unchanged() && self.reals.is_unchanged())
+    }
+
+    fn is_refusal_of_rays(&self, call: &str, ours: u32, number: u32) -> Result<(), String> {
+        let unchanged = self.planes.is_unchanged() && self.polygons.is_unchanged() && self.times.is_unchanged();
+        is_refusal(call, ours, number, unchanged)
+    }
+
+    fn accepted(&mut self, file: &[u8], measures: &Measures) -> Result<(), String> {
+        let mesh = Mesh::read(file);
+        let layout = Layout { polygons: mesh.polygons.len(), vertices: mesh.vertices() };
+        let faces = measures.faces();
+        let body = self.call(("body", gablemadder::body), layout, faces)?;
+        let readings = self.readings(layout, faces, &body)?;
+        against::readings(file, &body, &readings, &measures.readings()).map_err(of_rust)?;
+        let rounds = self.rounds(layout, faces, &body)?;
+        against::rounds(file, &body, &rounds, &measures.rounds()).map_err(of_rust)?;
+        let count = pick_count(&mut self.random, layout.polygons);
+        let rays = aim::rays(&mut self.random, &mesh, count);
+        let hits = self.hits(layout, &body, &rays)?;
+        for (hit, ray) in hits.iter().zip(rays.chunks(6)) {
+            let wanted = measures.hit(v3(ray[0], ray[1], ray[2]), v3(ray[3], ray[4], ray[5]));
+            against::hit(file, &body, *hit, wanted).map_err(|place| format!("the Rust's, ray {ray:?}: {place}"))?;
+        }
+        self.count(&readings, &rounds, &hits);
+        if layout.vertices <= SMALL {
+            self.by_definition(&mesh, &readings, &rounds, &rays, &hits).map_err(|place| format!("by definition: {place}"))?;
+        }
+        self.too_short(layout)?;
+        self.too_short_for_rays(layout, &rays)
+    }
+
+    /// The body's regions after a call that answers 0, with the cells that it needs or some more; past those that it needs none is changed.
+    fn call(&mut self, (name, call): (&str, Call), layout: Layout, faces: usize) -> Result<Regions, String> {
+        let (words, reals) = layout.lent();
+        let more = [0; 2].map(|_| self.random.below(2) as usize * self.random.below(100) as usize);
+        self.lend(words + more[0], reals + more[1], layout.vertices);
+        let ours = call(&self.lent, self.words.cells(), self.reals.cells());
+        if ours != 0 {
+            return Err(format!("{name} {ours} for 0"));
+        }
+        if !self.words.is_unchanged_past(words) || !self.reals.is_unchanged_past(reals) {
+            return Err(format!("{name}: cells past the needed ones are changed"));
+        }
+        Ok(Regions::read(layout, faces, self.words.cells(), self.reals.cells()))
+    }
+
+    fn readings(&mut self, layout: Layout, faces: usize, body: &Regions) -> Result<Vec<Reading>, String> {
+        let after = self.call(CALLS[0], layout, faces)?;
+        after.compare(body).map_err(|place| format!("the body after the readings: {place}"))?;
+        found::readings(layout, self.words.cells(), self.reals.cells())
+    }
+
+    fn rounds(&mut self, layout: Layout, faces: usize, body: &Regions) -> Result<Vec<Round>, String> {
+        let after = self.call(CALLS[1], layout, faces)?;
+        after.compare(body).map_err(|place| format!("the body after the rounds: {place}"))?;
+        Ok(found::rounds(layout, faces, self.words.cells(), self.reals.cells()))
+    }
+
+    /// What the rays hit; a few numbers that are no whole ray follow them now and then.
+    fn hits(&mut self, layout: Layout, body: &Regions, rays: &[f64]) -> Result<Vec<found::Hit>, String> {
+        let (planes, count) = (layout.lent_for_planes(), rays.len() / 6);
+        let more = [0; 3].map(|_| self.random.below(2) as usize * self.random.below(10) as usize);
+        self.lend_for_rays(planes + more[0], count + more[1], count + more[2]);
+        let mut lent = rays.to_vec();
+        lent.resize(rays.len() + self.random.below(6) as usize, 1.0);
+        let ours = gablemadder::raycast(&self.lent, self.planes.cells(), &lent, self.polygons.cells(), self.times.cells());
+        if ours != 0 {
+            return Err(format!("raycast {ours} for 0"));
+        }
+        let unchanged = self.planes.is_unchanged_past(planes) && self.polygons.is_unchanged_past(count) && self.times.is_unchanged_past(count);
+        if !unchanged || !same_bits(rays, &lent) {
+            return Err("raycast: cells past the needed ones, or the rays, are changed".into());
+        }
+        let cells = self.planes.cells();
+        let kept: Vec<[u64; 4]> = (0..layout.polygons).map(|p| [0, 1, 2, 3].map(|k| cells[layout.plane(p) + k].to_bits())).collect();
+        same("plane of the rays", &kept, &body.planes)?;
+        (0..count).map(|k| found::hit(layout, self.polygons.cells(), self.times.cells(), k)).collect()
+    }
+
+    fn count(&mut self, readings: &[Reading], rounds: &[Round], hits: &[found::Hit]) {
+        let seen = &mut self.seen;
+        let of_kind = |kind: u32| rounds.iter().filter(|r| r.kind == kind).count() as u64;
+        seen.readings += readings.len() as u64;
+        seen.convex += of_kind(CONVEX);
+        seen.concave += of_kind(CONCAVE);
+        seen.holes += of_kind(HOLE);
+        seen.rays += hits.len() as u64;
+        seen.hits += hits.iter().flatten().count() as u64;
+        seen.at_zero += hits.iter().flatten().filter(|(_, t)| f64::from_bits(*t) == 0.0).count() as u64;
+    }
+
+    fn by_definition(&mut self, mesh: &Mesh, readings: &[Reading], rounds: &[Round], rays: &[f64], hits: &[found::Hit]) -> Result<(), String> {
+        let tried = Tried::of(mesh);
+        let seen = &mut self.seen;
+        seen.by_definition += 1;
+        seen.no_area += u64::from(!mesh.polygons.is_empty() && tried.total_area() <= 0.0);
+        same("reading", readings, &tried.readings(&mut seen.noted))?;
+        same("round", rounds, &tried.rounds(&mut seen.noted))?;
+        for (hit, ray) in hits.iter().zip(rays.chunks(6)) {
+            let point = |at: usize| -> Point { [ray[at], ray[at + 1], ray[at + 2]] };
+            let (wanted, at_this_t) = tried.hit(point(0), point(3));
+            seen.ties += u64::from(at_this_t > 1);
+            same(&format!("hit of {ray:?}"), &[*hit], &[wanted])?;
+        }
+        Ok(())
+    }
+
+    /// One cell too few of either: 10, and nothing changed.
+    fn too_short(&mut self, layout: Layout) -> Result<(), String> {
+        let (words, reals) = layout.lent();
+        self.lend(words, reals, 0);
+        for (name, call) in CALLS {
+            let ours = call(&self.lent, self.words.one_short(), self.reals.cells());
+            self.is_refusal(&format!("{name}, a u32 too few,"), ours, 10)?;
+            let ours = call(&self.lent, self.words.cells(), self.reals.one_short());
+            self.is_refusal(&format!("{name}, an f64 too few,"), ours, 10)?;
+            let ours = call(&self.lent, &mut [], &mut []);
+            self.is_refusal(&format!("{name}, nothing lent,"), ours, 10)?;
+        }
+        Ok(())
+    }
+
+    fn too_short_for_rays(&mut self, layout: Layout, rays: &[f64]) -> Result<(), String> {
+        let (planes, count) = (layout.lent_for_planes(), rays.len() / 6);
+        self.lend_for_rays(planes, count, count);
+        if planes > 0 {
+            let ours = gablemadder::raycast(&self.lent, self.planes.one_short(), rays, self.polygons.cells(), self.times.cells());
+            self.is_refusal_of_rays("raycast, an f64 too few for planes,", ours, 10)?;
+        }
+        if count > 0 {
+            let ours = gablemadder::raycast(&self.lent, self.planes.cells(), rays, self.polygons.one_short(), self.times.cells());
+            self.is_refusal_of_rays("raycast, a u32 too few,", ours, 10)?;
+            let ours = gablemadder::raycast(&self.lent, self.planes.cells(), rays, self.polygons.cells(), self.times.one_short());
+            self.is_refusal_of_rays("raycast, an f64 too few for times,", ours, 10)?;
+        }
+        Ok(())
+    }
+}
+
+fn of_rust(place: String) -> String {
+    format!("the Rust's: {place}")
+}
+
+/// Fewer for large bodies; none now and then.
+fn pick_count(random: &mut Random, polygons: usize) -> usize {
+    let most = if polygons > 1000 { 8 } else { 24 };
+    random.below(most + 1) as usize
+}
+
+fn same_bits(a: &[f64], b: &[f64]) -> bool {
+    a.iter().zip(b).all(|(x, y)| x.to_bits() == y.to_bits())
+}
+
+fn is_refusal(call: &str, ours: u32, number: u32, unchanged: bool) -> Result<(), String> {
+    if !unchanged {
+        return Err(format!("{call} answers {ours} and changes cells"));
+    }
+    if ours == number {
+        Ok(())
+    } else {
+        Err(format!("{call} {ours} for {number}"))
+    }
+}
