@@ -1,6 +1,6 @@
 -- The answers of `put_samples` and `put_rounds`, return by return, in the words of the code's tests.
 use mathlib.Core.Path.{_≡_, refl, sym, ap, _∙_, subst, subst₂}
-use mathlib.Core.Bool.{Bool, true, false, _||_, cond}
+use mathlib.Core.Bool.{Bool, true, false, cond}
 use mathlib.Core.List.{List}
 use Prim.Native.Nat.{ℕ, _+_, _*_, _≤_, _<_}
 use native.Mathlib.Omega.{arith}
@@ -10,13 +10,13 @@ use lib.Seq.{getD-set-same, getD-set-other}
 use lib.Ieee.{Float, nan}
 use borrow.Author.Tests.{eqb-true, eqb-false, lt-ltb, le-ltb}
 use Rattle.part.specs.Layout.{vertexCount, polygonCount}
-use Rattle.part.specs.Part.{Part, partOf}
+use Rattle.part.specs.Part.{partOf}
 use Rattle.part.specs.Verdict.{number}
 use Rattle.part.proofs.PartLaws.{part-vertices, part-polygons}
 use Rattle.part.proofs.ReadableLaws.{readable-counts}
 use Rattle.solid.specs.Faces.{bodyVerdict, Checked}
 use Rattle.solid.proofs.BodyLaws.{accepted, checked-readable}
-use Rattle.body.specs.Regions.{wordsEnd, readingsAt, measuresEnd}
+use Rattle.body.specs.Regions.{readingsAt, measuresEnd}
 use Rattle.body.specs.Body.{Words, Reals, tooLittle, bodyRefusal, BodyPut}
 use Rattle.body.proofs.AnswerLaws.{enough}
 use Rattle.samples.specs.Samples.{readingsOf}

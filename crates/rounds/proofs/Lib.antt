@@ -11,7 +11,7 @@
 --   words-still, reals-still                so the body still stands in the scratch
 -- PutLaws
 --   part-front              a part of what stands before a place, where that is as it was
---   few-faces, face-low     there are at most as many faces as polygons
+--   face-low                a face's number is below the number of polygons
 -- RunLaws, ChoiceLaws, BoreLaws, SurfaceLaws, KeptLaws: the steps of the functions here
 pub mod RunLaws
 pub mod ChoiceLaws

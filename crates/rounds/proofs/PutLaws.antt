@@ -2,19 +2,15 @@
 use mathlib.Core.Path.{_≡_, refl, sym, ap, _∙_, subst, subst₂}
 use mathlib.Core.Bool.{Bool, true, false, not, _&&_, cond}
 use mathlib.Core.List.{List}
-use mathlib.Core.Logic.{_⊎_, inl, inr}
 use Prim.Native.Nat.{ℕ, _+_, _*_, _-_, _≤_, _<_}
 use native.Mathlib.Omega.{arith}
 use native.Mathlib.Nat.{le-antisymm, sub-zero}
-use lib.Dec.{eqb}
 use lib.ListN.{length, getD, set, take, drop, length-drop, take-append-drop}
 use lib.Seq.{length-take-le, take-append-le, drop-append-le}
 use lib.Ieee.{Float, lt}
-use borrow.Author.Tests.{not-true, not-false, eq-eqb, ne-eqb}
+use borrow.Author.Tests.{not-true, not-false}
 use borrow.Rule.Slice.PartMut.{putMid}
-use Rattle.float.proofs.Tests.{lt-or-ge}
 use Rattle.ranges.specs.Region.{part}
-use Rattle.ranges.proofs.Count.{count-le}
 use Rattle.ranges.proofs.Regions.{part-length, put-length, part-put, part-before, part-place}
 use Rattle.math.specs.Vector as vector
 use Rattle.part.specs.declared.read.SurfaceKind.{SurfaceKind}
@@ -22,10 +18,11 @@ use Rattle.part.specs.Layout.{vertexCount, polygonCount}
 use Rattle.part.specs.Part.{Part, partOf, surfaceAt}
 use Rattle.part.proofs.PartLaws.{part-polygons, part-surface}
 use Rattle.part.proofs.ReadableLaws.{readable-counts}
-use Rattle.solid.specs.Faces.{firstOf, isNew, faceCount, facesOf, faceNumber, firstPolygon, Checked}
+use Rattle.solid.specs.Faces.{facesOf, firstPolygon, Checked}
 use Rattle.solid.proofs.BodyLaws.{checked-readable, checked-faces, EntryRoom, entry-room}
 use Rattle.solid.specs.Kept.{Faces}
-use Rattle.solid.proofs.FaceLaws.{first-le, is-new, first-new, count-new, count-old, count-passes, number-new, number-first, first-polygon-begins}
+use Rattle.solid.proofs.FaceLaws.{first-polygon-begins}
+use Rattle.solid.proofs.CountLaws.{few-faces}
 use Rattle.holes.specs.Direction.{goesRound}
 use Rattle.body.specs.Regions.{roundKindsAt, measuresEnd, roundsAt, directionsAt}
 use Rattle.rounds.specs.declared.frame.Frame.{Frame}
@@ -48,35 +45,6 @@ front n s = ap (λ (k : ℕ). take k s) (sub-zero n)
 pub part-front : {X : Type 0} (n a e : ℕ) (s s' : List X) → n ≤ length s → length s' ≡ length s → part 0 n s' ≡ part 0 n s → a ≤ e → e ≤ n → part a e s' ≡ part a e s
 part-front n a e s s' h long same g l =
     part-whole n a e s' (omega (arith, h, long)) g l ∙ ap (part a e) (sym (front n s') ∙ same ∙ front n s) ∙ sym (part-whole n a e s h g l)
-
--- ---- how many faces there are
-not-new : (t : Part) (q : ℕ) → firstOf t q < q → isNew t q ≡ false
-unfolding isNew
-not-new t q l = ne-eqb (firstOf t q) q (λ e. omega (arith, e, l))
-
-pub count-next : (t : Part) (q f n r : ℕ) → f ≡ faceNumber t q → n ≡ faceCount t q → r ≡ cond (eqb f n) (n + 1) n → r ≡ faceCount t (q + 1)
-count-next t q f n r ef en er = er ∙ go (lt-or-ge (firstOf t q) q)
-  where
-    go : (firstOf t q < q) ⊎ (q ≤ firstOf t q) → cond (eqb f n) (n + 1) n ≡ faceCount t (q + 1)
-    go (inl earlier) =
-        let old : isNew t q ≡ false = not-new t q earlier in
-        let less : faceNumber t q < faceCount t q = omega (arith, number-first t q, count-passes t (firstOf t q) q earlier (first-new t q)) in
-        ap (λ (b : Bool). cond b (n + 1) n) (ne-eqb f n (λ e. omega (arith, e, ef, en, less))) ∙ en ∙ sym (count-old t q old)
-    go (inr same) =
-        let new : isNew t q ≡ true = is-new t q (le-antisymm (first-le t q) same) in
-        ap (λ (b : Bool). cond b (n + 1) n) (eq-eqb f n (ef ∙ number-new t q new ∙ sym en)) ∙ ap (λ (k : ℕ). k + 1) en ∙ sym (count-new t q new)
-
-pub faces-le : (t : Part) (q : ℕ) → faceCount t q ≤ q
-unfolding faceCount
-faces-le t q = count-le q (isNew t)
-
-pub few-faces : (t : Part) → facesOf t ≤ t .polygons
-unfolding facesOf
-few-faces t = faces-le t (t .polygons)
-
-pub count-all : (t : Part) (q p n : ℕ) → p ≡ t .polygons → q ≤ p → p ≤ q → n ≡ faceCount t q → n ≡ facesOf t
-unfolding facesOf
-count-all t q p n e l g h = h ∙ ap (faceCount t) (le-antisymm l g ∙ e)
 
 -- ---- the first polygon of face f, and its surface
 pub first-at : (t : Part) (words : List ℕ) (p v f : ℕ) → p ≡ t .polygons → f < facesOf t → facesOf t ≤ 1024 → Faces t (part (p + 8 * v) (p + 8 * v + (p + 1024)) words) →

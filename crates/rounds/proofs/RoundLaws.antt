@@ -19,7 +19,7 @@ use Rattle.rounds.specs.declared.measure.Measure.{Measure}
 use Rattle.rounds.specs.declared.round.Round.{Round}
 use Rattle.rounds.specs.Round.{faceSurface, originOf, radiusOf, isRound, faceMeasure, isConcave, directionsOf, isHole, roundOf, roundsTo}
 use Rattle.rounds.specs.Kept.{roundKind, KeptKinds, measureAt, KeptMeasures, Rounds}
-use Rattle.rounds.proofs.PutLaws.{few-faces}
+use Rattle.solid.proofs.CountLaws.{few-faces}
 use Rattle.holes.specs.Direction.{goesRound}
 
 -- ---- what the kinds say

@@ -16,7 +16,6 @@ ghost use Rattle.rounds.specs.Frame.{measureOf, Central};
 ghost use Rattle.rounds.specs.Round.{extentTo, votesTo, faceSurface, originOf, radiusOf, isRound, roundOf};
 ghost use Rattle.rounds.specs.Kept.{putMeasure, CylinderPut, FacePut, StepPut, Rounds, RoundsPut};
 use crate::bore::is_bore;
-use crate::count::face_count;
 use crate::extent::face_extent;
 use crate::frame::Frame;
 use crate::measure::Measure;
@@ -26,6 +25,7 @@ use crate::votes::face_votes;
 use math::Vec3;
 use part::read::SurfaceKind;
 use part::read::surface;
+use solid::count::face_count;
 
 // A face whose surface is a cylinder.
 pub struct Round {

@@ -1,28 +1,25 @@
 -- The picks of a face, face by face: one more at a time, and how many readings there are at most.
 use mathlib.Core.Path.{_≡_, refl, sym, ap, _∙_, subst}
-use mathlib.Core.Bool.{Bool, true, false, _&&_, cond}
+use mathlib.Core.Bool.{false, _&&_, cond}
 use mathlib.Core.List.{List, [], _++_}
 use mathlib.Core.Logic.{_⊎_, inl, inr}
 use Prim.Native.Nat.{ℕ, zero, suc, _+_, _*_, _/_, _≤_, _<_}
 use native.Mathlib.Omega.{arith}
 use native.Mathlib.Numerals.{add-one}
 use native.Mathlib.Nat.{le-antisymm, div-le-self, mul-le-mul-right, mul-le-mul-left, mul-one, le-trans, add-mul}
-use lib.Dec.{eqb, ltb}
+use lib.Dec.{ltb}
 use lib.ListN.{length, getD, length-append}
-use borrow.Author.Tests.{ltb-false, lt-ltb, le-ltb, eq-eqb, ne-eqb}
-use Rattle.float.proofs.Tests.{contrary, lt-or-ge}
+use borrow.Author.Tests.{ltb-false, lt-ltb, le-ltb}
+use Rattle.float.proofs.Tests.{lt-or-ge}
 use Rattle.part.specs.Part.{Part}
-use Rattle.solid.specs.Faces.{firstOf, isNew, faceCount, facesOf, faceNumber}
-use Rattle.solid.proofs.FaceLaws.{count-start, count-new, count-old, count-passes, number-new, number-first, first-le, first-new, is-new}
 use Rattle.ray.specs.declared.strike.Hit.{Hit}
 use Rattle.ray.specs.declared.strike.Hit.the-variants.{At, Nothing}
 use Rattle.ray.specs.Nearest.{hitOf}
 use Rattle.starts.specs.Starts.{wanted, facePolygons, orderedPolygons, stepOf}
 use Rattle.starts.proofs.ShareLaws.{step-least}
 use Rattle.starts.proofs.OrderLaws.{ordered-length, lengths-more, lengths-within}
-use Rattle.starts.specs.Kept.{NumbersFrom, lengthsTo}
+use Rattle.starts.specs.Kept.{lengthsTo}
 use Rattle.samples.specs.Samples.{Reading, rayOf, backHit, taken, readingsFrom, picksTo, faceReadings, readingsTo}
-use Rattle.samples.specs.Stored.{Counted}
 use Rattle.samples.proofs.CastLaws.{readings-from}
 
 -- ---- the step
@@ -124,41 +121,3 @@ readings-few t (suc f) =
 -- the readings of face f have their places after those of the faces before it
 pub readings-room : (t : Part) (f : ℕ) → length (readingsTo t f) + length (facePolygons t f) ≤ t .polygons
 readings-room t f = omega (arith, readings-few t f, lengths-more t f, lengths-within t (f + 1))
-
--- ---- how many faces there are
--- by the polygons below q
-pub record CountedTo (l : List ℕ) (faces p q n : ℕ) : Type 0 where
-  pub is : (t : Part) → p ≡ t .polygons → NumbersFrom t p l faces → n ≡ faceCount t q
-
-number-old : (t : Part) (q : ℕ) → isNew t q ≡ false → faceNumber t q ≡ faceCount t q → ⊥
-number-old t q h e = go (lt-or-ge (firstOf t q) q)
-  where
-    go : (firstOf t q < q) ⊎ (q ≤ firstOf t q) → ⊥
-    go (inl below) = omega (arith, count-passes t (firstOf t q) q below (first-new t q), number-first t q, e)
-    go (inr above) = contrary (is-new t q (omega (arith, above, first-le t q))) h
-
-count-next : (t : Part) (q f n : ℕ) (b : Bool) → isNew t q ≡ b → f ≡ faceNumber t q → n ≡ faceCount t q → cond (eqb f n) (n + 1) n ≡ faceCount t (q + 1)
-count-next t q f n true h ef en =
-    let same : eqb f n ≡ true = eq-eqb f n (ef ∙ number-new t q h ∙ sym en) in
-    rw (same, count-new t q h, en)
-count-next t q f n false h ef en =
-    let other : eqb f n ≡ false = ne-eqb f n (λ z. number-old t q h (sym ef ∙ z ∙ en)) in
-    rw (other, count-old t q h, en)
-
-pub counted-none : (l : List ℕ) (faces p : ℕ) → CountedTo l faces p 0 0
-counted-none l faces p = record { is = λ t e h. count-start t }
-
-pub counted-more : (l : List ℕ) (faces p q f n r : ℕ) → q < p → f ≡ getD l (faces + q) 0 → r ≡ cond (eqb f n) (n + 1) n → CountedTo l faces p q n → CountedTo l faces p (q + 1) r
-counted-more l faces p q f n r low ef er h = record { is = λ t e k. er ∙ count-next t q f n (isNew t q) refl (ef ∙ k .each q low) (h .is t e k) }
-
-pub counted-all : (l : List ℕ) (faces p q n : ℕ) → q ≤ p → p ≤ q → CountedTo l faces p q n → Counted l faces p n
-unfolding facesOf
-counted-all l faces p q n a b h = record { is = λ t e k. h .is t e k ∙ ap (faceCount t) (le-antisymm a b ∙ e) }
-
--- at most one face more
-pub count-few : (f n q r : ℕ) → r ≡ cond (eqb f n) (n + 1) n → n ≤ q → r ≤ q + 1
-count-few f n q r e h = omega (arith, e, step (eqb f n))
-  where
-    step : (b : Bool) → cond b (n + 1) n ≤ q + 1
-    step true = omega (arith, h)
-    step false = omega (arith, h)

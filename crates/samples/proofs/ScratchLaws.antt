@@ -25,9 +25,9 @@ use Rattle.body.specs.Regions.{sidesAt, facesAt, wordsEnd, readingsAt, roundKin
 use Rattle.body.specs.Body.{Words, Reals}
 use Rattle.starts.specs.Starts.{totalArea}
 use Rattle.starts.specs.Kept.{Total, Negated}
-use Rattle.starts.proofs.KeptLaws.{numbers-from, falling-kept, falling-below}
+use Rattle.starts.proofs.KeptLaws.{falling-kept, falling-below}
 use Rattle.samples.specs.Samples.{Reading, readingsTo, readingsOf}
-use Rattle.samples.specs.Stored.{Stored, Readings, Outside, Added, Counted, Ready}
+use Rattle.samples.specs.Stored.{Stored, Readings, Outside, Added, Ready}
 use Rattle.samples.proofs.StoredLaws.{outside-then, outside-wide, outside-part, stored-none}
 
 -- ---- the body is as it was
@@ -75,7 +75,10 @@ module _ (s : List ℕ) (p v : ℕ) (words : List ℕ) (reals : List Float) (g :
   pub few-polygons : p ≤ 4096
   few-polygons = omega (arith, g .polygons, readable-counts s (checked-readable s (g .checked)) .1)
 
-  faces : FaceNumbers (partOf s) p (part (facesAt p v) (wordsEnd p v) words)
+  pub faces-room : p ≤ length (part (facesAt p v) (wordsEnd p v) words)
+  faces-room = omega (arith, part-length (facesAt p v) (wordsEnd p v) words (omega (arith, g .words-room)))
+
+  pub faces : FaceNumbers (partOf s) p (part (facesAt p v) (wordsEnd p v) words)
   faces =
       subst₂ (λ (k n : ℕ). FaceNumbers (partOf s) k (part (facesAt k n) (wordsEnd k n) words)) (sym polygons) (sym vertices) (g .the-words .faces .numbers)
 
@@ -88,15 +91,12 @@ module _ (s : List ℕ) (p v : ℕ) (words : List ℕ) (reals : List Float) (g :
   areas : KeptAreas (partOf s) p (part (areasAt p) (faceAreasAt p) reals)
   areas = subst (λ (k : ℕ). KeptAreas (partOf s) k (part (areasAt k) (faceAreasAt k) reals)) (sym polygons) (g .the-reals .areas)
 
-  pub count-is : (n : ℕ) → Counted words (facesAt p v) p n → n ≡ facesOf (partOf s)
-  count-is n h = h .is (partOf s) polygons (numbers-from (partOf s) p words (facesAt p v) (wordsEnd p v) (omega arith) faces)
-
-  pub areas-room : (n : ℕ) → Counted words (facesAt p v) p n → n ≤ length (part (faceAreasAt p) (volumesAt p) reals)
+  pub areas-room : (n : ℕ) → n ≡ facesOf (partOf s) → n ≤ length (part (faceAreasAt p) (volumesAt p) reals)
   areas-room n h =
-      omega (arith, count-is n h, checked-faces s (g .checked), part-length (faceAreasAt p) (volumesAt p) reals (omega (arith, g .reals-room)))
+      omega (arith, h, checked-faces s (g .checked), part-length (faceAreasAt p) (volumesAt p) reals (omega (arith, g .reals-room)))
 
-  pub total-is : (n : ℕ) (total : Float) → Counted words (facesAt p v) p n → Total (part (faceAreasAt p) (volumesAt p) reals) n total → total ≡ totalArea (partOf s)
-  total-is n total c h = h .is (partOf s) (count-is n c) face-areas
+  pub total-is : (n : ℕ) (total : Float) → n ≡ facesOf (partOf s) → Total (part (faceAreasAt p) (volumesAt p) reals) n total → total ≡ totalArea (partOf s)
+  total-is n total c h = h .is (partOf s) c face-areas
 
   -- with the areas negated, all is there that the rays ask for
   pub ready : (after : List Float) → Negated reals after (areasAt p) (fallingAt p) p → Ready s p v words after
@@ -150,7 +150,7 @@ module _ (s : List ℕ) (p v : ℕ) (words : List ℕ) (reals : List Float) (g :
   unfolding readingsOf
   all-is n total en e h = rw (← e, h, en)
 
-  module _ (n : ℕ) (total : Float) (c : Counted words (facesAt p v) p n) (t : Total (part (faceAreasAt p) (volumesAt p) reals) n total) where
+  module _ (n : ℕ) (total : Float) (c : n ≡ facesOf (partOf s)) (t : Total (part (faceAreasAt p) (volumesAt p) reals) n total) where
     pub none-count : le total vector.zero ≡ true → 0 ≡ length (readingsOf (partOf s))
     none-count h = ap length (none-is total (total-is n total c t) h)
 
@@ -160,11 +160,11 @@ module _ (s : List ℕ) (p v : ℕ) (words : List ℕ) (reals : List Float) (g :
     module _ (after : List Float) (words′ : List ℕ) (reals′ : List Float) (m : ℕ) (h : le total vector.zero ≡ false) (f : Negated reals after (areasAt p) (fallingAt p) p)
         (a : Added (partOf s) p v 0 (readingsTo (partOf s) n) words words′ after reals′ m) where
       pub all-count : m ≡ length (readingsOf (partOf s))
-      all-count = a .count ∙ zero-add (length (readingsTo (partOf s) n)) ∙ ap length (all-is n total (count-is n c) (total-is n total c t) h)
+      all-count = a .count ∙ zero-add (length (readingsTo (partOf s) n)) ∙ ap length (all-is n total c (total-is n total c t) h)
 
       pub all-readings : Readings (partOf s) words′ reals′
       all-readings =
-          readings-are (readingsTo (partOf s) n) words′ reals′ (all-is n total (count-is n c) (total-is n total c t) h)
+          readings-are (readingsTo (partOf s) n) words′ reals′ (all-is n total c (total-is n total c t) h)
           (a .stored [] refl (stored-none (partOf s) p v words after))
 
       pub all-reals : Outside nan (fallingAt p) (roundsAt p) reals reals′

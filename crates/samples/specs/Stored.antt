@@ -7,11 +7,11 @@ use lib.Ieee.{Float, nan}
 use Rattle.ranges.specs.Region.{part}
 use Rattle.part.specs.Layout.{vertexCount, polygonCount}
 use Rattle.part.specs.Part.{Part, partOf}
-use Rattle.solid.specs.Faces.{Checked, facesOf, polygonArea}
+use Rattle.solid.specs.Faces.{Checked, polygonArea}
 use Rattle.solid.specs.Kept.{KeptPlanes, KeptAreas, FaceNumbers, FaceAreas}
 use Rattle.body.specs.Regions.{facesAt, wordsEnd, readingsAt, hitsAt, orderAt, roundKindsAt}
 use Rattle.body.specs.Regions.{areasAt, faceAreasAt, volumesAt, fallingAt, thicknessAt, readingAreasAt, roundsAt}
-use Rattle.starts.specs.Kept.{KeptFalling, NumbersFrom}
+use Rattle.starts.specs.Kept.{KeptFalling}
 use Rattle.ray.specs.declared.strike.Hit.{Hit}
 use Rattle.ray.specs.declared.strike.Hit.the-variants.{At, Nothing}
 use Rattle.samples.specs.Samples.{Reading, readingsOf}
@@ -66,10 +66,6 @@ pub record From (a : ℕ) (old new : List ℕ) : Type 0 where
 -- polygons of a part stand in the first n cells of the order
 pub record Listed (p v n : ℕ) (words : List ℕ) : Type 0 where
   pub each : (i : ℕ) → i < n → getD words (orderAt p v + i) 0 < p
-
--- the number of faces, for every part whose polygons' faces are kept from `faces` on
-pub record Counted (l : List ℕ) (faces p r : ℕ) : Type 0 where
-  pub is : (t : Part) → p ≡ t .polygons → NumbersFrom t p l faces → r ≡ facesOf t
 
 -- the scratch holds the faces, planes and areas of the part, and the areas negated
 pub record Ready (s : List ℕ) (p v : ℕ) (words : List ℕ) (reals : List Float) : Type 0 where

@@ -13,9 +13,10 @@ ghost use Rattle.body.specs.Body.{Words, Reals};
 ghost use Rattle.body.specs.Regions.{orderAt, readingsAt, roundKindsAt, fallingAt, roundsAt};
 ghost use Rattle.starts.specs.Starts.{stepOf, totalArea, facePolygons};
 ghost use Rattle.samples.specs.Samples.{readingsFrom, picksTo, faceReadings, readingsTo, readingsOf};
-ghost use Rattle.samples.specs.Stored.{putPolygons, putMeasures, Outside, From, Added, Listed, Counted, Ready, Readings};
+ghost use Rattle.samples.specs.Stored.{putPolygons, putMeasures, Outside, From, Added, Listed, Ready, Readings};
 use crate::cast::reading_from;
 use ray::strike::Hit;
+use solid::count::face_count;
 use starts::face_order;
 use starts::put_falling;
 use starts::share;
@@ -165,31 +166,6 @@ fn put_faces(
     k
 }
 
-// Face f, where it comes after n faces, is one more.
-fn count_face(n: usize, f: usize) -> usize
-    requires { ⌜ n ≤ 4096 ⌝ }
-    ensures { λ r. ⌜ r ≡ cond (eqb f n) (n + 1) n ⌝ }
-{
-    if f == n {
-        return n + 1;
-    }
-    n
-}
-
-// How many faces p polygons are of, by the numbers of their faces.
-fn face_count(words: &[u32], faces: usize, p: usize) -> usize
-    requires { ⌜ faces + p ≤ length (now words) ⌝ ∗ ⌜ p ≤ 4096 ⌝ }
-    ensures { λ r. ⌜ Counted (now (words .entry)) faces p r ⌝ ∗ ⌜ r ≤ p ⌝ }
-{
-    let mut n: usize = 0;
-    let mut q: usize = 0;
-    while q < p {
-        n = count_face(n, wide(words[faces + q]));
-        q += 1;
-    }
-    n
-}
-
 // The readings of a part whose body stands in the scratch. How many there are.
 pub fn put_samples(file: &[u8], words: &mut [u32], reals: &mut [f64], p: usize, v: usize) -> usize
     requires { ⌜ Checked (now file) ⌝ ∗ ⌜ p ≡ polygonCount (now file) ⌝ ∗ ⌜ v ≡ vertexCount (now file) ⌝ ∗ ⌜ 8 * p + 8 * v + 1024 ≤ length (now words) ⌝ }
@@ -199,7 +175,8 @@ pub fn put_samples(file: &[u8], words: &mut [u32], reals: &mut [f64], p: usize, 
     ensures { λ r. ⌜ Outside 0 (readingsAt p v) (roundKindsAt p v) (now (words .entry)) (now (words .exit)) ⌝ ∗ ⌜ Outside nan (fallingAt p) (roundsAt p) (now (reals .entry)) (now (reals .exit)) ⌝ }
 {
     let faces = p + 8 * v;
-    let n = face_count(words, faces, p);
+    let last = faces + (p + 1024);
+    let n = face_count(file, &words[faces..last], p);
     let start = 5 * p;
     let end = start + 1024;
     let total = total_area(&reals[start..end], n);

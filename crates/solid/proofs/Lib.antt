@@ -5,6 +5,8 @@
 --   number-below            a face's number is below the number of faces
 --   number-same, same-number                            one number is one face
 --   first-polygon           the first polygon by the face's number; first-polygon-begins: each number below the number of faces has one
+-- CountLaws: count-next, count-all      the number of faces, counted by the polygons' face numbers
+--   faces-le, few-faces     there are no more faces than polygons
 -- BodyLaws: a file that none of refusals 1 to 9 turns back
 --   checked-readable, checked-flat, checked-faces       none of 1 to 7, no flat polygon, at most 1,024 faces
 --   checked-number, number-room                         a face's number is below 1,024, and below a length that holds all faces
@@ -14,6 +16,7 @@
 -- CornerLaws, FirstLaws, KeptLaws: the steps of the functions here
 pub mod CornerLaws
 pub mod FaceLaws
+pub mod CountLaws
 pub mod FirstLaws
 pub mod BodyLaws
 pub mod KeptLaws

@@ -9,7 +9,8 @@ use Rattle.part.proofs.PartLaws.{part-polygons}
 use Rattle.rounds.specs.Frame.{Central}
 use Rattle.rounds.proofs.FrameLaws.{face-central}
 use Rattle.rounds.proofs.SurfaceLaws.{round-is, frame-is, round-none}
-use Rattle.rounds.proofs.PutLaws.{few-faces, face-cylinder, face-none}
+use Rattle.solid.proofs.CountLaws.{few-faces}
+use Rattle.rounds.proofs.PutLaws.{face-cylinder, face-none}
 use Rattle.rounds.proofs.round.put_face.Statement.{statement}
 use Rattle.rounds.proofs.round.put_face.Tie as tie
 

@@ -4,8 +4,9 @@ use mathlib.Core.Path.{refl, _∙_}
 use native.Mathlib.Omega.{arith}
 use lib.Ieee.{nan}
 use denote.Ref.{now}
+use Rattle.solid.proofs.BodyLaws.{checked-readable}
 use Rattle.samples.proofs.StoredLaws.{outside-none}
-use Rattle.samples.proofs.ScratchLaws.{Standing, few-polygons, areas-room, count-is, total-is, ready, words-still, reals-still}
+use Rattle.samples.proofs.ScratchLaws.{Standing, faces-room, faces, areas-room, total-is, ready, words-still, reals-still}
 use Rattle.samples.proofs.ScratchLaws.{none-count, none-readings, all-count, all-readings, all-reals}
 use Rattle.samples.proofs.store.put_samples.Statement.{statement}
 use Rattle.samples.proofs.store.put_samples.Tie as tie
@@ -30,8 +31,28 @@ mul-faces c = search needs
 add-faces : tie.Need-add-faces
 add-faces c = search needs
 
+add-last : tie.Need-add-last
+add-last c = search needs
+
+add-last-2 : tie.Need-add-last-2
+add-last-2 c = search needs
+
+mul-face-count : tie.Need-mul-face-count
+mul-face-count c = search needs
+
+sub-face-count : tie.Need-sub-face-count
+sub-face-count c = search needs
+
+part-face-count-start : tie.Need-part-face-count-start
+part-face-count-start c = search needs
+
+part-face-count-end : tie.Need-part-face-count-end
+part-face-count-end c = search needs
+
 face-count-requires : tie.Need-face-count-requires
-face-count-requires c κs = let g = given (c .before .before .before .before) in (omega (arith, g .words-room), few-polygons _ _ _ _ _ g)
+face-count-requires c κs =
+    let g = given (c .before .before .before .before .before) in
+    (checked-readable _ (g .checked), (g .polygons, (faces-room _ _ _ _ _ g, faces _ _ _ _ _ g)))
 
 mul-start : tie.Need-mul-start
 mul-start c = search needs
@@ -52,7 +73,7 @@ part-total-area-end : tie.Need-part-total-area-end
 part-total-area-end c = search needs
 
 total-area-requires : tie.Need-total-area-requires
-total-area-requires c κs = let g = given (c .before .before .before .before .before .before .before) in areas-room _ _ _ _ _ g _ (c .before .before .face-count .ensures .0)
+total-area-requires c κs = let g = given (c .before .before .before .before .before .before .before .before) in areas-room _ _ _ _ _ g _ (c .before .before .face-count .ensures)
 
 same-length : tie.Need-same-length
 same-length c = refl
@@ -62,8 +83,8 @@ same-length-2 c = refl
 
 returns : tie.Need-returns
 returns c =
-    let g = given (c .before .before .before .before .before .before .before .before .before) in
-    let count = c .before .before .before .before .face-count .ensures .0 in
+    let g = given (c .before .before .before .before .before .before .before .before .before .before) in
+    let count = c .before .before .before .before .face-count .ensures in
     let total = c .before .total-area .ensures in
     let test = c .if1 .taken in
     (none-count _ _ _ _ _ g _ _ count total test, (none-readings _ _ _ _ _ g _ _ count total test, (g .the-words, (g .the-reals, (outside-none 0 _ _ _, outside-none nan _ _ _)))))
@@ -75,14 +96,14 @@ add-put-falling : tie.Need-add-put-falling
 add-put-falling c = search needs
 
 put-falling-requires : tie.Need-put-falling-requires
-put-falling-requires c κs = let g = given (c .before .before .before .before .before .before .before .before .before .before) in (omega arith, omega (arith, g .reals-room))
+put-falling-requires c κs = let g = given (c .before .before .before .before .before .before .before .before .before .before .before) in (omega arith, omega (arith, g .reals-room))
 
 put-faces-requires : tie.Need-put-faces-requires
 put-faces-requires c κs =
-    let g = given (c .before .before .before .before .before .before .before .before .before .before .before .before .before .before .before) in
-    let count = c .before .before .before .before .before .before .before .before .before .before .face-count .ensures .0 in
+    let g = given (c .before .before .before .before .before .before .before .before .before .before .before .before .before .before .before .before) in
+    let count = c .before .before .before .before .before .before .before .before .before .before .face-count .ensures in
     let total = c .before .before .before .before .before .before .before .total-area .ensures in
-    (ready _ _ _ _ _ g _ (c .before .before .before .before .put-falling .ensures), (count-is _ _ _ _ _ g _ count, total-is _ _ _ _ _ g _ _ count total))
+    (ready _ _ _ _ _ g _ (c .before .before .before .before .put-falling .ensures), (count, total-is _ _ _ _ _ g _ _ count total))
 
 same-length-3 : tie.Need-same-length-3
 same-length-3 c = c .before .before .before .before .put-faces .ensures .words-kept .long
@@ -93,8 +114,8 @@ same-length-4 c =
 
 returns-2 : tie.Need-returns-2
 returns-2 c =
-    let g = given (c .before .before .before .before .before .before .before .before .before .before .before .before .before .before .before .before .before .before .before .before) in
-    let count = c .before .before .before .before .before .before .before .before .before .before .before .before .before .before .before .face-count .ensures .0 in
+    let g = given (c .before .before .before .before .before .before .before .before .before .before .before .before .before .before .before .before .before .before .before .before .before) in
+    let count = c .before .before .before .before .before .before .before .before .before .before .before .before .before .before .before .face-count .ensures in
     let total = c .before .before .before .before .before .before .before .before .before .before .before .before .total-area .ensures in
     let test = c .before .before .before .before .before .before .before .before .before .before .before .if1 .left in
     let put = c .before .before .before .before .put-faces .ensures in
@@ -113,6 +134,12 @@ put-samples-spec =
     (tie.spec
     mul-faces
     add-faces
+    add-last
+    add-last-2
+    mul-face-count
+    sub-face-count
+    part-face-count-start
+    part-face-count-end
     face-count-requires
     mul-start
     add-end

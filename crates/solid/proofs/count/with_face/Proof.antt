@@ -1,8 +1,8 @@
--- `rounds::count::with_face` meets its contract.
+-- `solid::count::with_face` meets its contract.
 use borrow.Author.Needs.{needs}
 use borrow.Author.Tests.{eq-eqb, ne-eqb}
-use Rattle.rounds.proofs.count.with_face.Statement.{statement}
-use Rattle.rounds.proofs.count.with_face.Tie as tie
+use Rattle.solid.proofs.count.with_face.Statement.{statement}
+use Rattle.solid.proofs.count.with_face.Tie as tie
 
 add-result : tie.Need-add-result
 add-result c = search needs

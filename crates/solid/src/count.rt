@@ -21,6 +21,7 @@ fn with_face(f: usize, n: usize) -> usize
     n
 }
 
+// The number of faces, by the face number of each of p polygons.
 pub fn face_count(file: &[u8], faces: &[u32], p: usize) -> usize
     requires { ⌜ Readable (now file) ⌝ ∗ ⌜ p ≡ polygonCount (now file) ⌝ ∗ ⌜ p ≤ length (now faces) ⌝ ∗ ⌜ FaceNumbers (partOf (now file)) p (now faces) ⌝ }
     ensures { λ r. ⌜ r ≡ facesOf (partOf (now (file .entry))) ⌝ }

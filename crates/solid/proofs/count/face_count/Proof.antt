@@ -1,4 +1,4 @@
--- `rounds::count::face_count` meets its contract.
+-- `solid::count::face_count` meets its contract.
 use borrow.Author.Needs.{needs}
 use mathlib.Core.Path.{_≡_, sym, _∙_}
 use Prim.Native.Nat.{_-_, _≤_}
@@ -7,11 +7,11 @@ use denote.Ref.{now}
 use Rattle.part.specs.Part.{partOf}
 use Rattle.part.proofs.PartLaws.{part-polygons}
 use Rattle.part.proofs.ReadableLaws.{readable-counts}
 use Rattle.solid.specs.Faces.{faceCount}
 use Rattle.solid.proofs.FaceLaws.{count-start}
-use Rattle.rounds.proofs.PutLaws.{count-next, faces-le, count-all}
-use Rattle.rounds.proofs.count.face_count.Statement.{statement}
-use Rattle.rounds.proofs.count.face_count.Tie as tie
+use Rattle.solid.proofs.CountLaws.{count-next, faces-le, count-all}
+use Rattle.solid.proofs.count.face_count.Statement.{statement}
+use Rattle.solid.proofs.count.face_count.Tie as tie
 
 abbrev Inv-loop : tie.InvT-loop
 Inv-loop file faces p n₀ q₀ n q = (q ≤ p) × (n ≡ faceCount (partOf file) q)
