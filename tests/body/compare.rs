@@ -7,7 +7,7 @@ use crate::layout::{Layout, Side};
 use crate::mesh::Mesh;
 use crate::random::Random;
 use crate::regions::{labels, same, sides, Regions};
-use crate::scratch::Scratch;
+use crate::scratch::{is_refusal, Scratch};
 use crate::tally::Tally;
 use oracle::lists::Lists;
 
@@ -93,14 +93,7 @@ impl Compare {
 
     /// This answer, and no cell changed.
     fn is_refusal(&self, call: &str, ours: u32, number: u32) -> Result<(), String> {
-        if !self.words.is_unchanged() || !self.reals.is_unchanged() {
-            return Err(format!("{call} answers {ours} and changes cells"));
-        }
-        if ours == number {
-            Ok(())
-        } else {
-            Err(format!("{call} {ours} for {number}"))
-        }
+        is_refusal(call, ours, number, self.words.is_unchanged() && self.reals.is_unchanged())
     }
 
     fn accepted(&mut self, file: &[u8], lists: &Lists) -> Result<(), String> {

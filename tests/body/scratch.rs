@@ -84,3 +84,15 @@ impl<T: Cell> Scratch<T> {
         self.is_unchanged_past(self.cells.len() - 2 * MARGIN)
     }
 }
+
+/// A call that is to be refused by this number and to change nothing.
+pub fn is_refusal(call: &str, ours: u32, number: u32, unchanged: bool) -> Result<(), String> {
+    if !unchanged {
+        return Err(format!("{call} answers {ours} and changes cells"));
+    }
+    if ours == number {
+        Ok(())
+    } else {
+        Err(format!("{call} {ours} for {number}"))
+    }
+}

@@ -26,6 +26,50 @@ mod c {
         pub fn gablemadder_bodies(file: *const u8, len: usize, mem: *mut u32, mem_len: usize) -> u32;
         pub fn gablemadder_samples(file: *const u8, len: usize, words: *mut u32, words_len: usize, reals: *mut f64, reals_len: usize) -> u32;
         pub fn gablemadder_rounds(file: *const u8, len: usize, words: *mut u32, words_len: usize, reals: *mut f64, reals_len: usize) -> u32;
+        pub fn gablemadder_sample_list(
+            file: *const u8,
+            len: usize,
+            words: *mut u32,
+            words_len: usize,
+            reals: *mut f64,
+            reals_len: usize,
+            faces: *mut u32,
+            faces_len: usize,
+            numbers: *mut f64,
+            numbers_len: usize,
+        ) -> u32;
+        pub fn gablemadder_round_list(
+            file: *const u8,
+            len: usize,
+            words: *mut u32,
+            words_len: usize,
+            reals: *mut f64,
+            reals_len: usize,
+            faces: *mut u32,
+            faces_len: usize,
+            numbers: *mut f64,
+            numbers_len: usize,
+        ) -> u32;
+        pub fn gablemadder_rough(
+            file: *const u8,
+            len: usize,
+            words: *mut u32,
+            words_len: usize,
+            reals: *mut f64,
+            reals_len: usize,
+            out: *mut f64,
+            out_len: usize,
+        ) -> u32;
+        pub fn gablemadder_open_towards(
+            file: *const u8,
+            len: usize,
+            planes: *mut f64,
+            planes_len: usize,
+            rays: *const f64,
+            rays_len: usize,
+            open: *mut u32,
+            open_len: usize,
+        ) -> u32;
         pub fn gablemadder_raycast(
             file: *const u8,
             len: usize,
@@ -145,4 +189,26 @@ pub fn rounds(file: &[u8], words: &mut [u32], reals: &mut [f64]) -> u32 {
 pub fn raycast(file: &[u8], planes: &mut [f64], rays: &[f64], polygons: &mut [u32], times: &mut [f64]) -> u32 {
     let (p, r, k, t) = (planes.as_mut_ptr(), rays.as_ptr(), polygons.as_mut_ptr(), times.as_mut_ptr());
     unsafe { c::gablemadder_raycast(file.as_ptr(), file.len(), p, planes.len(), r, rays.len(), k, polygons.len(), t, times.len()) }
+}
+
+/// Of the readings: their number, then two cells for each, and eight numbers for each.
+pub fn sample_list(file: &[u8], words: &mut [u32], reals: &mut [f64], faces: &mut [u32], numbers: &mut [f64]) -> u32 {
+    let (w, r, f, n) = (words.as_mut_ptr(), reals.as_mut_ptr(), faces.as_mut_ptr(), numbers.as_mut_ptr());
+    unsafe { c::gablemadder_sample_list(file.as_ptr(), file.len(), w, words.len(), r, reals.len(), f, faces.len(), n, numbers.len()) }
+}
+
+/// Of the rounds: their number, then three cells for each, and eleven numbers for each.
+pub fn round_list(file: &[u8], words: &mut [u32], reals: &mut [f64], faces: &mut [u32], numbers: &mut [f64]) -> u32 {
+    let (w, r, f, n) = (words.as_mut_ptr(), reals.as_mut_ptr(), faces.as_mut_ptr(), numbers.as_mut_ptr());
+    unsafe { c::gablemadder_round_list(file.as_ptr(), file.len(), w, words.len(), r, reals.len(), f, faces.len(), n, numbers.len()) }
+}
+
+pub fn rough(file: &[u8], words: &mut [u32], reals: &mut [f64], out: &mut [f64]) -> u32 {
+    let (w, r, o) = (words.as_mut_ptr(), reals.as_mut_ptr(), out.as_mut_ptr());
+    unsafe { c::gablemadder_rough(file.as_ptr(), file.len(), w, words.len(), r, reals.len(), o, out.len()) }
+}
+
+pub fn open_towards(file: &[u8], planes: &mut [f64], rays: &[f64], open: &mut [u32]) -> u32 {
+    let (p, r, o) = (planes.as_mut_ptr(), rays.as_ptr(), open.as_mut_ptr());
+    unsafe { c::gablemadder_open_towards(file.as_ptr(), file.len(), p, planes.len(), r, rays.len(), o, open.len()) }
 }

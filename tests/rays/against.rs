@@ -1,8 +1,7 @@
 //! Readings, rounds and hits against the Rust's own, bit by bit.
-use crate::definition::centroid;
 use crate::field::{word, Blocks};
-use crate::found::{Bits, Hit, Reading, Round, CONCAVE, CONVEX, HOLE};
-use crate::mesh::{point, Point};
+use crate::found::{Bits, Hit, Reading};
+use crate::listed::{self, Kept};
 use crate::regions::{same, Regions};
 use oracle::math::Vec3;
 use oracle::measures;
@@ -50,30 +49,26 @@ fn id(entry: &[u8]) -> (u32, u32) {
     (word(entry, 0), word(entry, 4))
 }
 
-fn real(entry: &[u8], at: usize) -> u64 {
-    u64::from_le_bytes(entry[at..at + 8].try_into().unwrap())
+/// The ids of a face, by its number: those of its first polygon.
+fn face(file: &[u8], body: &Regions, number: usize) -> Result<(u32, u32), String> {
+    match body.firsts.get(number) {
+        Some(first) => Ok(id(entry(file, *first as usize))),
+        None => Err(format!("there is no face {number}")),
+    }
 }
 
-fn corners(file: &[u8], polygon: usize) -> Vec<Point> {
-    let entry = entry(file, polygon);
-    let first = word(entry, 8) as usize;
-    (first..first + word(entry, 12) as usize).map(|v| point(file, v)).collect()
-}
-
-/// Point and normal are not kept: the point is the centroid of the polygon in the file, the normal stands with its plane.
-pub fn readings(file: &[u8], body: &Regions, found: &[Reading], wanted: &[measures::Sample]) -> Result<(), String> {
-    let ours = |r: &Reading| {
-        let [p, q] = r.polygons.map(|p| p as usize);
-        let [x, y, z, _] = body.planes[p];
-        Sample {
-            face: id(entry(file, p)),
-            hit: id(entry(file, q)),
-            thickness: r.thickness,
-            area: r.area,
-            point: centroid(&corners(file, p)).map(f64::to_bits),
-            normal: [x, y, z],
+/// All from the list but the polygons, which stand in the scratch.
+pub fn readings(file: &[u8], kept: &Kept, listed: &[listed::Sample], wanted: &[measures::Sample]) -> Result<(), String> {
+    let ours = |(s, r): (&listed::Sample, &Reading)| {
+        Ok(Sample {
+            face: face(file, kept.body, s.face)?,
+            hit: face(file, kept.body, s.hit)?,
+            thickness: s.thickness,
+            area: s.area,
+            point: s.point,
+            normal: s.normal,
             polygons: r.polygons,
-        }
+        })
     };
     let theirs = |s: &measures::Sample| Sample {
         face: pair(s.face),
@@ -84,28 +79,15 @@ pub fn readings(file: &[u8], body: &Regions, found: &[Reading], wanted: &[measur
         normal: bits(s.normal),
         polygons: s.polygons.map(|p| p as u32),
     };
-    let ours: Vec<Sample> = found.iter().map(ours).collect();
+    let ours = listed.iter().zip(kept.readings).map(ours).collect::<Result<Vec<Sample>, String>>()?;
     let theirs: Vec<Sample> = wanted.iter().map(theirs).collect();
     same("reading", &ours, &theirs)
 }
 
-/// Origin and radius are those of the entry of the face's first polygon.
-pub fn rounds(file: &[u8], body: &Regions, found: &[Round], wanted: &[measures::Round]) -> Result<(), String> {
-    if let Some(r) = found.iter().find(|r| ![CONVEX, CONCAVE, HOLE].contains(&r.kind)) {
-        return Err(format!("face {} is a round of kind {}", r.face, r.kind));
-    }
-    let ours = |r: &Round| {
-        let entry = entry(file, body.firsts[r.face] as usize);
-        Cylinder {
-            id: id(entry),
-            origin: [24, 32, 40].map(|at| real(entry, at)),
-            axis: r.axis,
-            radius: real(entry, 72),
-            concave: r.kind != CONVEX,
-            hole: r.kind == HOLE,
-            length: r.length,
-            centre: r.centre,
-        }
+pub fn rounds(file: &[u8], kept: &Kept, listed: &[listed::Cylinder], wanted: &[measures::Round]) -> Result<(), String> {
+    let ours = |r: &listed::Cylinder| {
+        let listed::Cylinder { origin, axis, radius, concave, hole, length, centre, .. } = *r;
+        Ok(Cylinder { id: face(file, kept.body, r.face)?, origin, axis, radius, concave, hole, length, centre })
     };
     let theirs = |r: &measures::Round| Cylinder {
         id: pair(r.id),
@@ -117,7 +99,7 @@ pub fn rounds(file: &[u8], body: &Regions, found: &[Round], wanted: &[measures::
         length: r.length.to_bits(),
         centre: bits(r.centre),
     };
-    let ours: Vec<Cylinder> = found.iter().map(ours).collect();
+    let ours = listed.iter().map(ours).collect::<Result<Vec<Cylinder>, String>>()?;
     let theirs: Vec<Cylinder> = wanted.iter().map(theirs).collect();
     same("round", &ours, &theirs)
 }

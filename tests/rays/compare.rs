@@ -4,12 +4,13 @@ use crate::aim;
 use crate::found::{self, Reading, Round, CONCAVE, CONVEX, HOLE};
 use crate::gablemadder;
 use crate::layout::Layout;
+use crate::listed::{Kept, Listed};
 use crate::mesh::{Mesh, Point};
 use crate::random::Random;
 use crate::regions::{same, Regions};
-use crate::scratch::Scratch;
+use crate::scratch::{is_refusal, Scratch};
 use crate::tally::Tally;
-use crate::tried::{Noted, Tried};
+use crate::tried::{median, Noted, Tried};
 use oracle::math::v3;
 use oracle::measures::Measures;
 
@@ -32,6 +33,10 @@ pub struct Seen {
     /// Hits at t of zero, of either sign; rays that strike several at the smallest t.
     pub at_zero: u64,
     pub ties: u64,
+    /// Rays that leave the part, and that do not; bodies of more than one reading.
+    pub open: u64,
+    pub closed: u64,
+    pub medians: u64,
     /// Bodies whose polygons have no area.
     pub no_area: u64,
     pub noted: Noted,
@@ -46,7 +51,17 @@ pub struct Compare {
     planes: Scratch<f64>,
     polygons: Scratch<u32>,
     times: Scratch<f64>,
+    listed: Listed,
     lent: Vec<u8>,
+}
+
+/// What is found of a body beside its readings and rounds.
+struct Found<'a> {
+    /// The bits of the median of all readings.
+    rough: u64,
+    rays: &'a [f64],
+    hits: &'a [found::Hit],
+    open: Vec<bool>,
 }
 
 type Call = fn(&[u8], &mut [u32], &mut [f64]) -> u32;
@@ -64,6 +79,7 @@ impl Compare {
             planes: Scratch::new(),
             polygons: Scratch::new(),
             times: Scratch::new(),
+            listed: Listed::new(seed ^ 0x5eed),
             lent: Vec::new(),
         }
     }
@@ -95,7 +111,8 @@ impl Compare {
         self.lend_for_rays(n, n, n);
         let rays = vec![0.5; 6 * n];
         let ours = gablemadder::raycast(&self.lent, self.planes.cells(), &rays, self.polygons.cells(), self.times.cells());
-        self.is_refusal_of_rays("raycast", ours, number)
+        self.is_refusal_of_rays("raycast", ours, number)?;
+        self.listed.refused(&self.lent, number)
     }
 
     /// So many cells, with any garbage.
@@ -128,22 +145,34 @@ impl Compare {
         let faces = measures.faces();
         let body = self.call(("body", gablemadder::body), layout, faces)?;
         let readings = self.readings(layout, faces, &body)?;
-        against::readings(file, &body, &readings, &measures.readings()).map_err(of_rust)?;
         let rounds = self.rounds(layout, faces, &body)?;
-        against::rounds(file, &body, &rounds, &measures.rounds()).map_err(of_rust)?;
         let count = pick_count(&mut self.random, layout.polygons);
         let rays = aim::rays(&mut self.random, &mesh, count);
         let hits = self.hits(layout, &body, &rays)?;
-        for (hit, ray) in hits.iter().zip(rays.chunks(6)) {
-            let wanted = measures.hit(v3(ray[0], ray[1], ray[2]), v3(ray[3], ray[4], ray[5]));
-            against::hit(file, &body, *hit, wanted).map_err(|place| format!("the Rust's, ray {ray:?}: {place}"))?;
-        }
-        self.count(&readings, &rounds, &hits);
+        let kept = Kept { layout, body: &body, readings: &readings, rounds: &rounds };
+        let found = Found { rough: self.listed.rough(&self.lent, &kept)?, open: self.listed.open(&self.lent, &kept, &rays)?, rays: &rays, hits: &hits };
+        self.beside_the_rust(file, measures, &kept, &found).map_err(|place| format!("the Rust's: {place}"))?;
+        self.count(&readings, &rounds, &found);
         if layout.vertices <= SMALL {
-            self.by_definition(&mesh, &readings, &rounds, &rays, &hits).map_err(|place| format!("by definition: {place}"))?;
+            self.by_definition(&mesh, &kept, &found).map_err(|place| format!("by definition: {place}"))?;
         }
         self.too_short(layout)?;
-        self.too_short_for_rays(layout, &rays)
+        self.too_short_for_rays(layout, &rays)?;
+        self.listed.too_short(&self.lent, layout, &rays)
+    }
+
+    fn beside_the_rust(&mut self, file: &[u8], measures: &Measures, kept: &Kept, found: &Found) -> Result<(), String> {
+        let samples = self.listed.samples(&self.lent, kept)?;
+        against::readings(file, kept, &samples, &measures.readings())?;
+        let cylinders = self.listed.rounds(&self.lent, kept)?;
+        against::rounds(file, kept, &cylinders, &measures.rounds())?;
+        same("median", &[found.rough], &[measures.rough().to_bits()])?;
+        for ((ray, hit), open) in found.rays.chunks(6).zip(found.hits).zip(&found.open) {
+            let (origin, dir) = (v3(ray[0], ray[1], ray[2]), v3(ray[3], ray[4], ray[5]));
+            against::hit(file, kept.body, *hit, measures.hit(origin, dir)).map_err(|place| format!("ray {ray:?}: {place}"))?;
+            same(&format!("openness of {ray:?}"), &[*open], &[measures.is_open(origin, dir)])?;
+        }
+        Ok(())
     }
 
     /// The body's regions after a call that answers 0, with the cells that it needs or some more; past those that it needs none is changed.
@@ -194,30 +223,36 @@ impl Compare {
         (0..count).map(|k| found::hit(layout, self.polygons.cells(), self.times.cells(), k)).collect()
     }
 
-    fn count(&mut self, readings: &[Reading], rounds: &[Round], hits: &[found::Hit]) {
+    fn count(&mut self, readings: &[Reading], rounds: &[Round], found: &Found) {
         let seen = &mut self.seen;
         let of_kind = |kind: u32| rounds.iter().filter(|r| r.kind == kind).count() as u64;
+        let hits = || found.hits.iter().flatten();
         seen.readings += readings.len() as u64;
         seen.convex += of_kind(CONVEX);
         seen.concave += of_kind(CONCAVE);
         seen.holes += of_kind(HOLE);
-        seen.rays += hits.len() as u64;
-        seen.hits += hits.iter().flatten().count() as u64;
-        seen.at_zero += hits.iter().flatten().filter(|(_, t)| f64::from_bits(*t) == 0.0).count() as u64;
+        seen.rays += found.hits.len() as u64;
+        seen.hits += hits().count() as u64;
+        seen.at_zero += hits().filter(|(_, t)| f64::from_bits(*t) == 0.0).count() as u64;
+        seen.open += found.open.iter().filter(|open| **open).count() as u64;
+        seen.closed += found.open.iter().filter(|open| !**open).count() as u64;
+        seen.medians += u64::from(readings.len() > 1);
     }
 
-    fn by_definition(&mut self, mesh: &Mesh, readings: &[Reading], rounds: &[Round], rays: &[f64], hits: &[found::Hit]) -> Result<(), String> {
+    fn by_definition(&mut self, mesh: &Mesh, kept: &Kept, found: &Found) -> Result<(), String> {
         let tried = Tried::of(mesh);
         let seen = &mut self.seen;
         seen.by_definition += 1;
         seen.no_area += u64::from(!mesh.polygons.is_empty() && tried.total_area() <= 0.0);
-        same("reading", readings, &tried.readings(&mut seen.noted))?;
-        same("round", rounds, &tried.rounds(&mut seen.noted))?;
-        for (hit, ray) in hits.iter().zip(rays.chunks(6)) {
+        same("reading", kept.readings, &tried.readings(&mut seen.noted))?;
+        same("round", kept.rounds, &tried.rounds(&mut seen.noted))?;
+        same("median", &[found.rough], &[median(kept.readings)])?;
+        for ((ray, hit), open) in found.rays.chunks(6).zip(found.hits).zip(&found.open) {
             let point = |at: usize| -> Point { [ray[at], ray[at + 1], ray[at + 2]] };
             let (wanted, at_this_t) = tried.hit(point(0), point(3));
             seen.ties += u64::from(at_this_t > 1);
             same(&format!("hit of {ray:?}"), &[*hit], &[wanted])?;
+            same(&format!("openness of {ray:?}"), &[*open], &[tried.is_open(point(0), point(3))])?;
         }
         Ok(())
     }
@@ -254,10 +289,6 @@ impl Compare {
     }
 }
 
-fn of_rust(place: String) -> String {
-    format!("the Rust's: {place}")
-}
-
 /// Fewer for large bodies; none now and then.
 fn pick_count(random: &mut Random, polygons: usize) -> usize {
     let most = if polygons > 1000 { 8 } else { 24 };
@@ -266,15 +297,4 @@ fn pick_count(random: &mut Random, polygons: usize) -> usize {
 
 fn same_bits(a: &[f64], b: &[f64]) -> bool {
     a.iter().zip(b).all(|(x, y)| x.to_bits() == y.to_bits())
-}
-
-fn is_refusal(call: &str, ours: u32, number: u32, unchanged: bool) -> Result<(), String> {
-    if !unchanged {
-        return Err(format!("{call} answers {ours} and changes cells"));
-    }
-    if ours == number {
-        Ok(())
-    } else {
-        Err(format!("{call} {ours} for {number}"))
-    }
 }

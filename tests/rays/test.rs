@@ -33,6 +33,7 @@ mod bores;
 mod compare;
 mod found;
 mod large;
+mod listed;
 mod tried;
 mod walls;
 
@@ -136,6 +137,9 @@ fn total(a: Seen, b: Seen) -> Seen {
         hits: a.hits + b.hits,
         at_zero: a.at_zero + b.at_zero,
         ties: a.ties + b.ties,
+        open: a.open + b.open,
+        closed: a.closed + b.closed,
+        medians: a.medians + b.medians,
         no_area: a.no_area + b.no_area,
         noted,
     }
@@ -143,7 +147,7 @@ fn total(a: Seen, b: Seen) -> Seen {
 
 /// The count of what occurs least.
 fn print(seen: &Seen) -> u64 {
-    let Seen { answers, by_definition, readings, convex, concave, holes, rays, hits, at_zero, ties, no_area, noted } = seen;
+    let Seen { answers, by_definition, readings, convex, concave, holes, rays, hits, at_zero, ties, open, closed, medians, no_area, noted } = seen;
     let Noted { stepped, equal, missed, aside, on_axis } = noted;
     let [accepted, .., eight, nine] = answers;
     let others: u64 = answers[1..8].iter().sum();
@@ -152,6 +156,7 @@ fn print(seen: &Seen) -> u64 {
     println!("rays: faces of equal areas {equal}, with polygons passed over {stepped}; bodies of no area {no_area}");
     println!("rays: rounds that are convex {convex}, concave {concave}, holes {holes}; with a vertex on the axis {on_axis}");
     println!("rays: {rays} rays given, {hits} hits, at t of zero {at_zero}, with others at the same t {ties}");
-    let all = [accepted, by_definition, readings, missed, aside, equal, stepped, no_area, convex, concave, holes, on_axis, hits, at_zero, ties, eight, nine];
+    println!("rays: lines that leave the part {open}, that do not {closed}; medians of more than one reading {medians}");
+    let all = [accepted, by_definition, readings, missed, aside, equal, stepped, no_area, convex, concave, holes, on_axis, hits, at_zero, ties, open, closed, medians, eight, nine];
     all.into_iter().copied().min().unwrap_or(0)
 }

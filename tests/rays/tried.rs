@@ -68,6 +68,11 @@ impl Tried<'_> {
         (lowest.map(|(p, t)| (*p as u32, t.to_bits())), nearest.len())
     }
 
+    /// Whether nothing is struck from 1e-4 along the line on.
+    pub fn is_open(&self, p: Point, dir: Point) -> bool {
+        self.struck(plus(p, times(dir, 1e-4)), dir).is_empty()
+    }
+
     fn face_area(&self, f: usize) -> f64 {
         self.faces[f].iter().fold(0.0, |sum, p| sum + self.areas[*p])
     }
@@ -155,6 +160,23 @@ impl Tried<'_> {
             let radial = minus(from, times(axis, dot(from, axis)));
             votes + dot(self.planes[*p].0, unit(radial)) * self.areas[*p]
         })
+    }
+}
+
+/// The thickness at half the area, by its bits: each reading has the place that so many come before, those that are thinner, and those as thin that
+/// stand before it.
+pub fn median(readings: &[Reading]) -> u64 {
+    let thickness = |k: usize| f64::from_bits(readings[k].thickness);
+    let comes = |a: usize, b: usize| thickness(a) < thickness(b) || (thickness(a) == thickness(b) && a < b);
+    let place = |k: usize| (0..readings.len()).filter(|j| comes(*j, k)).count();
+    let mut order = vec![usize::MAX; readings.len()];
+    (0..readings.len()).for_each(|k| order[place(k)] = k);
+    let area_to = |n: usize| order[..n].iter().fold(0.0, |sum, k| sum + f64::from_bits(readings[*k].area));
+    let half = 0.5 * area_to(order.len());
+    let reached = (0..order.len()).find(|k| area_to(k + 1) >= half);
+    match reached.or(order.len().checked_sub(1)) {
+        Some(k) => readings[order[k]].thickness,
+        None => 0,
     }
 }
 

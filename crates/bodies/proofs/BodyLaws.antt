@@ -7,8 +7,6 @@ use lib.ListN.{length, getD, take}
 use lib.Seq.{length-take-le, getD-take}
 use Rattle.part.specs.Part.{Part}
 use Rattle.bodies.specs.Body.{here, Touch, Joined, Bodies}
-use Rattle.bodies.specs.Volume.{volumeOf}
-use Rattle.bodies.proofs.VolumeLaws.{volumes-same}
 use Rattle.bodies.proofs.ChainLaws.{then, turned, lowest-only}
 
 pub touch-turned : (t : Part) (i j : ℕ) → Touch t i j → Touch t j i
@@ -55,6 +53,3 @@ module _ (t : Part) (mem : List ℕ) (r : Bodies t mem) where
   prefix-known p h =
       let l : p < t .polygons = omega (arith, prefix-long, h) in
       omega (arith, getD-take (t .polygons) mem p 0 l, label-known p l)
-
-  pub prefix-volume : (b : ℕ) → volumeOf t (take (t .polygons) mem) b ≡ volumeOf t mem b
-  prefix-volume b = volumes-same t (take (t .polygons) mem) mem (λ i h. getD-take (t .polygons) mem i 0 h) b

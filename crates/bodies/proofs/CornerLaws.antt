@@ -16,10 +16,10 @@ use Rattle.math.specs.Size.{VecWithin}
 use Rattle.field.specs.Field.{vecAt}
 use Rattle.part.specs.Layout.{vertexCount, polygonCount, entryAt}
 use Rattle.part.specs.Part.{Part, polygonAt, firstAt, countAt, partOf}
-use Rattle.part.specs.Rules.{runStart}
-use Rattle.part.specs.Verdict.{Readable}
-use Rattle.part.proofs.ReadableLaws.{readable-counts, readable-vertex, readable-run, readable-whole}
-use Rattle.part.proofs.PolygonLaws.{start-more}
+use Rattle.part_rules.specs.Rules.{runStart}
+use Rattle.part_rules.specs.Verdict.{Readable}
+use Rattle.part_rules.proofs.ReadableLaws.{readable-counts, readable-vertex, readable-run, readable-whole}
+use Rattle.part_rules.proofs.PolygonLaws.{start-more}
 use Rattle.segments.specs.Key.{keyPart}
 use Rattle.bodies.specs.Key.{hundred-thousand, Key, keyOf}
 use Rattle.bodies.specs.Body.{CornerOf, Touch, Lowest, Bodies}

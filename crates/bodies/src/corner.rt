@@ -5,7 +5,7 @@ ghost use lib.ListN.{length};
 ghost use Rattle.float.specs.Within.{Within};
 ghost use Rattle.part.specs.Layout.{vertexCount};
 ghost use Rattle.part.specs.Part.{partOf};
-ghost use Rattle.part.specs.Verdict.{Readable};
+ghost use Rattle.part_rules.specs.Verdict.{Readable};
 ghost use Rattle.segments.specs.Key.{keyPart};
 ghost use Rattle.bodies.specs.Key.{hundred-thousand};
 ghost use Rattle.bodies.specs.Corner.{Numbered, KeyPut, Keyed, Owned, Cornered};

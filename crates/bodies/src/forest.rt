@@ -1,5 +1,4 @@
 // Union-find over a slice of parents, in which no parent is above its child.
-ghost use mathlib.Core.Path.{_≡_};
 ghost use Prim.Native.Nat.{_<_, _^_};
 ghost use lib.ListN.{length};
 ghost use Rattle.bodies.specs.Forest.{Falls, Apart, Rooted, Linked, Taken, Flat};

@@ -4,7 +4,7 @@ ghost use Prim.Native.Nat.{_+_, _*_, _<_};
 ghost use lib.ListN.{length};
 ghost use Rattle.part.specs.Layout.{vertexCount, polygonCount};
 ghost use Rattle.part.specs.Part.{partOf};
-ghost use Rattle.part.specs.Verdict.{Readable};
+ghost use Rattle.part_rules.specs.Verdict.{Readable};
 ghost use Rattle.bodies.specs.Body.{Bodies};
 ghost use Rattle.bodies.specs.Table.{Memory, Scanned, Step, Labelled};
 use crate::cells::fill;

@@ -1,7 +1,6 @@
-// The bodies of a part, which are the sets of polygons that chains of touching polygons join, and their volumes.
-mod cells;
+// The bodies of a part, which are the sets of polygons that chains of touching polygons join.
+pub mod cells;
 mod corner;
 mod forest;
 pub mod label;
 mod table;
-pub mod volume;

@@ -1,16 +1,16 @@
 -- The f64 scratch, region by region: the loop that adds the areas of the faces, and all four regions after each other.
-use mathlib.Core.Path.{_≡_, refl, sym, ap, _∙_, subst}
+use mathlib.Core.Path.{_≡_, sym, ap, _∙_, subst}
 use mathlib.Core.List.{List}
 use Prim.Native.Nat.{ℕ, _+_, _*_, _-_, _≤_, _<_}
 use native.Mathlib.Omega.{arith}
-use lib.ListN.{length, getD, set, length-set}
+use lib.ListN.{length, getD, set}
 use lib.Ieee.{Float, nan, binary64, add}
 use borrow.Rule.Slice.PartMut.{putMid}
 use Rattle.ranges.specs.Region.{part}
 use Rattle.ranges.proofs.Regions.{part-length, put-length, part-put, part-before, part-place}
 use Rattle.part.specs.Part.{Part}
 use Rattle.solid.specs.Faces.{faceNumber, polygonArea}
-use Rattle.bodies.specs.Volume.{Volumes}
+use Rattle.volumes.specs.Volume.{Volumes}
 use Rattle.solid.specs.Kept.{KeptPlanes, KeptAreas, Zeros, AreasTo, FaceAreas}
 use Rattle.solid.proofs.KeptLaws.{sums-none, sums-more}
 use Rattle.body.specs.Body.{Words, FaceSums, Reals}

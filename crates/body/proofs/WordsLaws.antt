@@ -12,7 +12,7 @@ use Rattle.part.specs.Part.{Part}
 use Rattle.segments.specs.Sides.{SharedSegments}
 use Rattle.bodies.specs.Body.{Bodies, Lowest, Touch}
 use Rattle.solid.specs.Kept.{Faces}
-use Rattle.body.specs.Body.{Labels, Words}
+use Rattle.body.specs.Body.{Words}
 
 module _ (p v : ℕ) (s x y z : List ℕ) (room : p + 8 * v + (p + 1024) ≤ length s)
     (lx : length x ≡ p + 6 * v - 0) (ly : length y ≡ p + 8 * v - p) (lz : length z ≡ p + 8 * v + (p + 1024) - (p + 8 * v)) where

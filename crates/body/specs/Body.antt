@@ -1,18 +1,18 @@
 -- What the lent scratch holds once a part's body has been put there, by the part alone. Definitions only.
 use mathlib.Core.Path.{_≡_}
-use mathlib.Core.Bool.{Bool, _||_, cond}
+use mathlib.Core.Bool.{Bool, _||_}
 use mathlib.Core.List.{List}
-use Prim.Native.Nat.{ℕ, _+_, _*_, _≤_, _<_}
-use lib.Dec.{eqb, ltb}
+use Prim.Native.Nat.{ℕ, _+_, _<_}
+use lib.Dec.{ltb}
 use lib.ListN.{length, getD}
 use lib.Ieee.{Float}
 use Rattle.ranges.specs.Region.{part}
 use Rattle.part.specs.Layout.{vertexCount, polygonCount}
 use Rattle.part.specs.Part.{Part, partOf}
-use Rattle.part.specs.Verdict.{number}
+use Rattle.part_rules.specs.Verdict.{number, orTen}
 use Rattle.segments.specs.Sides.{SharedSegments}
 use Rattle.bodies.specs.Body.{Lowest, Touch}
-use Rattle.bodies.specs.Volume.{Volumes}
+use Rattle.volumes.specs.Volume.{Volumes}
 use Rattle.solid.specs.Faces.{bodyVerdict}
 use Rattle.solid.specs.Kept.{Faces, KeptPlanes, KeptAreas, FaceAreas}
 use Rattle.body.specs.Regions.{wordsNeeded, sidesAt, facesAt, wordsEnd, realsNeeded, areasAt, faceAreasAt, volumesAt, realsEnd}
@@ -46,7 +46,7 @@ unfoldable pub tooLittle : List ℕ → ℕ → ℕ → Bool
 tooLittle s words reals = ltb words (wordsNeeded (polygonCount s) (vertexCount s)) || ltb reals (realsNeeded (polygonCount s) (vertexCount s))
 
 unfoldable pub bodyRefusal : List ℕ → ℕ → ℕ → ℕ
-bodyRefusal s words reals = cond (eqb (number (bodyVerdict s)) 0) (cond (tooLittle s words reals) 10 0) (number (bodyVerdict s))
+bodyRefusal s words reals = orTen (number (bodyVerdict s)) (tooLittle s words reals)
 
 -- "1 to 10 .. change no buffer"; else both slices hold the body of the part, whatever they held before
 pub record BodyPut (s words words′ : List ℕ) (reals reals′ : List Float) (r : ℕ) : Type 0 where

@@ -1,4 +1,6 @@
 // The body of a part: everything that the rules ask of it, put into the lent scratch. specs/Regions.antt says what stands where.
+pub mod refusal;
+
 ghost use mathlib.Core.Path.{_≡_};
 ghost use Prim.Native.Nat.{_+_, _*_, _≤_};
 ghost use lib.ListN.{length};
@@ -8,13 +10,14 @@ ghost use Rattle.solid.specs.Faces.{Checked, facesOf};
 ghost use Rattle.ranges.specs.Region.{part};
 ghost use Rattle.solid.specs.Kept.{KeptAreas};
 ghost use Rattle.body.specs.Body.{Words, FaceSums, Reals, BodyPut};
-use bodies::volume::volumes;
+use crate::refusal::body_refusal;
 use part::read::polygon_count;
 use part::read::vertex_count;
 use solid::areas::add_area;
 use solid::areas::clear;
 use solid::areas::put_areas;
 use solid::areas::put_planes;
+use volumes::volume::volumes;
 
 // The bodies, the sides and the faces of a part with p polygons and v vertices. The number of faces.
 pub fn put_words(file: &[u8], words: &mut [u32], p: usize, v: usize) -> usize
@@ -71,15 +74,12 @@ pub fn put_reals(file: &[u8], words: &[u32], reals: &mut [f64], p: usize, v: usi
 pub fn put_body(file: &[u8], words: &mut [u32], reals: &mut [f64]) -> u32
     ensures { λ r. ⌜ BodyPut (now (file .entry)) (now (words .entry)) (now (words .exit)) (now (reals .entry)) (now (reals .exit)) r ⌝ }
 {
-    let refusal = solid::verdict::judge(file).refusal();
+    let refusal = body_refusal(file, words.len(), reals.len());
     if refusal != 0 {
         return refusal;
     }
     let v = vertex_count(file);
     let p = polygon_count(file);
-    if (words.len() < 8 * p + 8 * v + 1024) | (reals.len() < 16 * p + 8 * v + 2048) {
-        return 10;
-    }
     put_words(file, words, p, v);
     put_reals(file, words, reals, p, v);
     0

@@ -17,10 +17,10 @@ use Rattle.real.proofs.SelectLaws.{min-le, le-max, min-within, max-within}
 use Rattle.math.specs.declared.Vec3.{Vec3}
 use Rattle.part.specs.Part.{Part}
 use Rattle.solid.specs.Faces.{faceNumber, polygonCorner}
-use Rattle.rounds.specs.declared.frame.Frame.{Frame}
-use Rattle.rounds.specs.declared.extent.Extent.{Extent}
-use Rattle.rounds.specs.Frame.{heightOf, nowhere, reach, runExtent}
-use Rattle.rounds.specs.Round.{extentTo, extentWith}
+use Rattle.cylinders.specs.declared.frame.Frame.{Frame}
+use Rattle.cylinders.specs.declared.extent.Extent.{Extent}
+use Rattle.cylinders.specs.Frame.{heightOf, nowhere, reach, runExtent}
+use Rattle.cylinders.specs.Polygons.{extentTo, extentWith}
 
 -- two heights of at most b in size, the lower first
 pub record Spread (e : Extent) (b : ℕ) : Type 0 where

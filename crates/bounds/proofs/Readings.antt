@@ -22,7 +22,7 @@ use Rattle.math.specs.Vector as vector
 use Rattle.math.specs.Size.{VecWithin}
 use Rattle.part.specs.Part.{Part, partOf}
 use Rattle.part.proofs.PartLaws.{part-polygons}
-use Rattle.solid.specs.Polygon.{centroidOf}
+use Rattle.polygons.specs.Polygon.{centroidOf}
 use Rattle.solid.specs.Faces.{faceNumber, facesOf, polygonCorner, polygonPlane, Checked}
 use Rattle.sizes.specs.Sizes.{PlaneWithin}
 use Rattle.sizes.proofs.Vectors.{plus-within, times-within, dot-within}

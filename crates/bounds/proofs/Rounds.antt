@@ -21,16 +21,16 @@ use Rattle.math.specs.Size.{VecWithin}
 use Rattle.field.specs.Test.{two, ten-thousand}
 use Rattle.field.specs.Direction.{Directed}
 use Rattle.field.proofs.FieldLaws.{two-within, ten-thousand-within}
-use Rattle.job.specs.Rules.{thousandth}
+use Rattle.job_rules.specs.Rules.{thousandth}
 use Rattle.part.specs.declared.read.SurfaceKind.{SurfaceKind}
 use Rattle.part.specs.declared.read.SurfaceKind.the-variants.{Plane, Cylinder, Revolved, Other}
 use Rattle.part.specs.Layout.{vertexCount, polygonCount, entryAt}
 use Rattle.part.specs.Part.{partOf}
-use Rattle.part.specs.Readable.{SurfaceWithin}
-use Rattle.part.specs.Verdict.{Readable}
+use Rattle.part_rules.specs.Readable.{SurfaceWithin}
+use Rattle.part_rules.specs.Verdict.{Readable}
 use Rattle.part.proofs.PartLaws.{part-polygons, part-count, part-surface}
-use Rattle.part.proofs.ReadableLaws.{readable-run, readable-surface}
-use Rattle.solid.specs.Polygon.{half}
+use Rattle.part_rules.proofs.ReadableLaws.{readable-run, readable-surface}
+use Rattle.polygons.specs.Polygon.{half}
 use Rattle.solid.specs.Faces.{facesOf, firstPolygon, polygonCorner, Checked}
 use Rattle.solid.proofs.BodyLaws.{checked-readable}
 use Rattle.solid.proofs.FaceLaws.{first-polygon-begins}
@@ -39,10 +39,11 @@ use Rattle.sizes.proofs.Vectors.{plus-within, minus-within, times-within, dot-w
 use Rattle.sizes.proofs.Areas.{readable-near}
 use Rattle.sizes.proofs.Directions.{surface-fits, normalized-within}
 use Rattle.sizes.proofs.Above.{mul-beyond, beyond-plus, beyond-above}
-use Rattle.rounds.specs.declared.frame.Frame.{Frame}
-use Rattle.rounds.specs.declared.extent.Extent.{Extent}
-use Rattle.rounds.specs.Frame.{frameOf, heightOf, measureOf}
-use Rattle.rounds.specs.Round.{extentTo, faceSurface, isCylinder, originOf, dirOf, radiusOf, isRound, faceFrame, faceMeasure, roundOf, roundsTo, roundsOf}
+use Rattle.cylinders.specs.declared.frame.Frame.{Frame}
+use Rattle.cylinders.specs.declared.extent.Extent.{Extent}
+use Rattle.cylinders.specs.Frame.{frameOf, heightOf, measureOf}
+use Rattle.cylinders.specs.Polygons.{extentTo}
+use Rattle.rounds.specs.Round.{faceSurface, isCylinder, originOf, dirOf, radiusOf, isRound, faceFrame, faceMeasure, roundOf, roundsTo, roundsOf}
 use Rattle.bounds.specs.Each.{Each}
 use Rattle.bounds.specs.Round.{diameterOf, ratioOf, RoundBounds}
 use Rattle.bounds.proofs.EachLaws.{each-append}

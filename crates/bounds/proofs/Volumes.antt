@@ -18,9 +18,9 @@ use Rattle.math.specs.Size.{VecWithin}
 use Rattle.field.specs.Field.{vecAt}
 use Rattle.part.specs.Layout.{vertexCount, polygonCount, entryAt}
 use Rattle.part.specs.Part.{partOf, polygonAt, firstAt, countAt}
-use Rattle.part.specs.Verdict.{Readable}
-use Rattle.part.proofs.ReadableLaws.{readable-counts, readable-run, readable-vertex, readable-index}
-use Rattle.bodies.specs.Volume.{six, pyramid, fan, fanFrom, volumeTo, volumeOf}
+use Rattle.part_rules.specs.Verdict.{Readable}
+use Rattle.part_rules.proofs.ReadableLaws.{readable-counts, readable-run, readable-vertex, readable-index}
+use Rattle.volumes.specs.Volume.{six, pyramid, fan, fanFrom, volumeTo, volumeOf}
 use Rattle.sizes.proofs.Vectors.{cross-within, dot-within}
 use Rattle.sizes.proofs.Means.{over-within}
 

@@ -8,7 +8,7 @@ use Rattle.float.specs.Within.{Within}
 use Rattle.math.specs.Vector as vector
 use Rattle.math.specs.Size.{VecWithin}
 use Rattle.field.specs.Test.{two, ten-thousand}
-use Rattle.job.specs.Rules.{thousandth}
+use Rattle.job_rules.specs.Rules.{thousandth}
 use Rattle.rounds.specs.declared.round.Round.{Round}
 
 -- `2.0 * r.radius`

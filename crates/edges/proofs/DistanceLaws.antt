@@ -27,7 +27,7 @@ use Rattle.part.specs.Layout.{vertexCount}
 use Rattle.part.specs.Part.{Part, partOf}
 use Rattle.part.proofs.PartLaws.{part-vertices, part-vertex}
 use Rattle.segments.specs.Sides.{toOf}
-use Rattle.solid.specs.Segment.{nearestOn, segDistance}
+use Rattle.closest.specs.Segment.{nearestOn, segDistance}
 use Rattle.edges.specs.Distance.{sideDistance, sideSquare, nearerOf, distanceTo, edgeDistance, betweenDistance}
 use Rattle.edges.specs.Edges.{isEdgeOf, isBetween}
 use Rattle.edges.specs.Scan.{Lent}

@@ -10,10 +10,10 @@ use borrow.Author.Tests.{not-true, not-false, eq-eqb, ne-eqb, ltb-true, leb-true
 use Rattle.float.proofs.Tests.{contrary, and-true, and-left, and-right, and-false-left, and-false-right}
 use Rattle.part.specs.Layout.{vertexCount}
 use Rattle.part.specs.Part.{Part, partOf}
-use Rattle.part.specs.Verdict.{Readable}
+use Rattle.part_rules.specs.Verdict.{Readable}
 use Rattle.part.proofs.PartLaws.{part-vertices}
 use Rattle.segments.specs.Sides.{sameSide, SharedBy}
-use Rattle.segments.proofs.MeaningLaws.{pair-shared, shared-pair}
+use Rattle.pairs.proofs.MeaningLaws.{pair-shared, shared-pair}
 use Rattle.segments.proofs.SharedLaws.{part-sides-alike}
 use Rattle.solid.specs.Faces.{facesOf}
 use Rattle.edges.specs.declared.edge.Edge.{Edge}

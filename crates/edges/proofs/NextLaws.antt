@@ -11,7 +11,7 @@ use lib.Dec.{eqb}
 use borrow.Author.Tests.{eq-eqb, ne-eqb}
 use Rattle.float.proofs.Tests.{refuted, contrary, and-left, and-right, lt-or-ge}
 use Rattle.part.specs.Part.{Part, partOf}
-use Rattle.part.specs.Verdict.{Readable}
+use Rattle.part_rules.specs.Verdict.{Readable}
 use Rattle.part.proofs.PartLaws.{part-vertices}
 use Rattle.solid.specs.Faces.{facesOf}
 use Rattle.edges.specs.Edges.{isEdgeOf, otherFace}

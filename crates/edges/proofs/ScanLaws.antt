@@ -11,10 +11,10 @@ use Rattle.ranges.proofs.Below.{sum-none}
 use Rattle.part.specs.Layout.{vertexCount, polygonCount, entryAt}
 use Rattle.part.specs.declared.read.FaceId.{FaceId}
 use Rattle.part.specs.Part.{Part, faceAt, countAt, partOf}
-use Rattle.part.specs.Rules.{runStart}
-use Rattle.part.specs.Verdict.{Readable}
+use Rattle.part_rules.specs.Rules.{runStart}
+use Rattle.part_rules.specs.Verdict.{Readable}
 use Rattle.part.proofs.PartLaws.{part-vertices, part-polygons, part-face}
-use Rattle.part.proofs.ReadableLaws.{readable-length, readable-counts, readable-whole}
+use Rattle.part_rules.proofs.ReadableLaws.{readable-length, readable-counts, readable-whole}
 use Rattle.segments.specs.Sides.{ownerOf, toOf}
 use Rattle.segments.proofs.RunLaws.{owner-is, to-inside}
 use Rattle.solid.specs.Faces.{facesOf, faceNumber, firstPolygon}

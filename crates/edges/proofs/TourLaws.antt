@@ -11,7 +11,7 @@ use Rattle.float.proofs.Tests.{contrary, lt-or-ge}
 use Rattle.ranges.specs.Below.{countBelow}
 use Rattle.ranges.proofs.Count.{count-none, count-le}
 use Rattle.part.specs.Part.{Part, partOf}
-use Rattle.part.specs.Verdict.{Readable}
+use Rattle.part_rules.specs.Verdict.{Readable}
 use Rattle.solid.specs.Faces.{facesOf}
 use Rattle.edges.specs.Edges.{isEdgeOf, otherFace}
 use Rattle.edges.specs.Neighbours.{faceBefore, isPast, isWanted, nextNeighbour, neighbourAt, NextNeighbour}

@@ -8,7 +8,7 @@ use Rattle.math.specs.declared.Vec3.{Vec3}
 use Rattle.part.specs.Part.{Part}
 use Rattle.segments.specs.Sides.{toOf}
 use Rattle.math.specs.Vector.{minus, lengthSqOf}
-use Rattle.solid.specs.Segment.{nearestOn, segDistance}
+use Rattle.closest.specs.Segment.{nearestOn, segDistance}
 use Rattle.edges.specs.Edges.{isEdgeOf, isBetween}
 
 -- the distance of point p from the segment of side s

@@ -6,7 +6,7 @@ use mathlib.Core.Bool.{Bool, true, not, _&&_, _||_, cond}
 use Prim.Native.Nat.{ℕ, suc, _+_, _-_}
 use lib.Dec.{eqb, ltb, leb}
 use Rattle.part.specs.Part.{Part}
-use Rattle.segments.specs.Pair.{pairOf}
+use Rattle.pairs.specs.Pair.{pairOf}
 use Rattle.segments.specs.Sides.{ownerOf, sameSide}
 use Rattle.solid.specs.Faces.{faceNumber}
 use Rattle.edges.specs.declared.edge.Edge.{Edge}

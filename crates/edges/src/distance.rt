@@ -8,10 +8,10 @@ ghost use Rattle.edges.specs.Scan.{Lent};
 use crate::edge::cell;
 use crate::edge::is_between;
 use crate::edge::is_edge_of;
+use closest::segment::nearest_on;
 use math::Vec3;
 use part::read::vertex;
 use part::read::vertex_count;
-use solid::segment::nearest_on;
 
 // The squared distance of point p from the segment of side s.
 fn side_square(file: &[u8], sides: &[u32], faces: &[u32], p: Vec3, s: usize) -> f64

@@ -1,6 +1,2 @@
--- The laws on jobs.
--- JobLaws
---   good-job                a job within the rules has the bounds of `GoodJob`
--- Places: what a `match` on a process knows
-pub mod JobLaws
+-- Places: what a `match` on a process knows.
 pub mod Places

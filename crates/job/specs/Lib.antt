@@ -1,4 +1,2 @@
 -- The job of a part file.
 pub mod Job
-pub mod Rules
-pub mod Good

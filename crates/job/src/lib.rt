@@ -8,8 +8,6 @@ use field::read::u32_at;
 use field::read::vec_at;
 use math::Vec3;
 
-pub mod rules;
-
 pub enum Process {
     CncMachining,
     SheetMetal,

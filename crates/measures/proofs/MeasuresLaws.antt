@@ -1,24 +1,24 @@
 -- The answers of `put_samples` and `put_rounds`, return by return, in the words of the code's tests.
 use mathlib.Core.Path.{_≡_, refl, sym, ap, _∙_, subst, subst₂}
 use mathlib.Core.Bool.{Bool, true, false, cond}
+use mathlib.Core.Logic.{_⊎_, inl, inr}
 use mathlib.Core.List.{List}
 use Prim.Native.Nat.{ℕ, _+_, _*_, _≤_, _<_}
 use native.Mathlib.Omega.{arith}
-use lib.Dec.{eqb, ltb}
+use lib.Dec.{ltb}
 use lib.ListN.{length, getD, set, length-set}
 use lib.Seq.{getD-set-same, getD-set-other}
 use lib.Ieee.{Float, nan}
-use borrow.Author.Tests.{eqb-true, eqb-false, lt-ltb, le-ltb}
+use borrow.Author.Tests.{lt-ltb, le-ltb}
+use Rattle.float.proofs.Tests.{lt-or-ge}
 use Rattle.part.specs.Layout.{vertexCount, polygonCount}
 use Rattle.part.specs.Part.{partOf}
-use Rattle.part.specs.Verdict.{number}
 use Rattle.part.proofs.PartLaws.{part-vertices, part-polygons}
-use Rattle.part.proofs.ReadableLaws.{readable-counts}
-use Rattle.solid.specs.Faces.{bodyVerdict, Checked}
-use Rattle.solid.proofs.BodyLaws.{accepted, checked-readable}
+use Rattle.part_rules.proofs.ReadableLaws.{readable-counts}
+use Rattle.solid.specs.Faces.{Checked}
+use Rattle.solid.proofs.BodyLaws.{checked-readable}
 use Rattle.body.specs.Regions.{readingsAt, measuresEnd}
-use Rattle.body.specs.Body.{Words, Reals, tooLittle, bodyRefusal, BodyPut}
-use Rattle.body.proofs.AnswerLaws.{enough}
+use Rattle.body.specs.Body.{Words, Reals, BodyPut}
 use Rattle.samples.specs.Samples.{readingsOf}
 use Rattle.samples.specs.Stored.{Outside, Readings}
 use Rattle.samples.proofs.StoredLaws.{outside-none, outside-wide, stored-kept}
@@ -26,28 +26,7 @@ use Rattle.samples.proofs.ScratchLaws.{words-kept, reals-kept}
 use Rattle.samples.proofs.ReadingLaws.{readings-most}
 use Rattle.rounds.specs.Kept.{RoundsPut}
 use Rattle.rounds.proofs.BodyKept.{words-still, reals-still}
-use Rattle.measures.specs.Measures.{putCount, SamplesAnswer, RoundsAnswer}
-
--- ---- what no refusal of the body leaves
-none-number : (b little : Bool) (n : ℕ) → eqb n 0 ≡ b → cond b (cond little 10 0) n ≡ 0 → n ≡ 0
-none-number true little n t e = eqb-true n 0 t
-none-number false little n t e = absurd (eqb-false n 0 t e)
-
-none-little : (b little : Bool) (n : ℕ) → eqb n 0 ≡ b → cond b (cond little 10 0) n ≡ 0 → little ≡ false
-none-little true true n t e = absurd (omega (arith, e))
-none-little true false n t e = refl
-none-little false little n t e = absurd (eqb-false n 0 t e)
-
-pub put-checked : (s : List ℕ) (words reals r : ℕ) → r ≡ bodyRefusal s words reals → r ≡ 0 → Checked s
-unfolding bodyRefusal Checked
-put-checked s words reals r e z = accepted (bodyVerdict s) (none-number _ (tooLittle s words reals) (number (bodyVerdict s)) refl (sym e ∙ z))
-
-pub put-room : (s : List ℕ) (words reals r p v : ℕ) → r ≡ bodyRefusal s words reals → r ≡ 0 → p ≡ polygonCount s → v ≡ vertexCount s →
-    (8 * p + 8 * v + 1024 ≤ words) × (16 * p + 8 * v + 2048 ≤ reals)
-unfolding bodyRefusal tooLittle
-put-room s words reals r p v e z ep ev =
-    enough p v words reals
-    (rw (ep, ev) (none-little _ (tooLittle s words reals) (number (bodyVerdict s)) refl (sym e ∙ z)))
+use Rattle.measures.specs.Measures.{putCount, countIn, SamplesAnswer, RoundsAnswer}
 
 -- ---- the number of readings, kept
 pub few-readings : (s : List ℕ) (n : ℕ) → Checked s → n ≡ length (readingsOf (partOf s)) → n ≤ 4096
@@ -148,3 +127,25 @@ rounds-put s words words₁ words₂ reals reals₁ reals₂ r p v h z ep ev lon
       the-reals = λ _. reals-still t words₁ words₂ reals₁ reals₂ put′ long′ room′ (h .the-reals z);
       rounds = λ _. put .rounds;
     }
+
+-- ---- the count, read again
+pub count-some-in : (p v : ℕ) (words : List ℕ) → 0 < p → getD words (measuresEnd p v) 0 ≡ countIn p v words
+unfolding countIn
+count-some-in p v words some = rw (lt-ltb 0 p some)
+
+pub count-none-in : (p v : ℕ) (words : List ℕ) → p ≤ 0 → 0 ≡ countIn p v words
+unfolding countIn
+count-none-in p v words none = rw (le-ltb 0 p none)
+
+counted-in : (s words words′ : List ℕ) (reals reals′ : List Float) (r p v : ℕ) → SamplesAnswer s words words′ reals reals′ r → r ≡ 0 → p ≡ polygonCount s → v ≡ vertexCount s →
+    (0 < p) ⊎ (p ≤ 0) → countIn p v words′ ≡ length (readingsOf (partOf s))
+counted-in s words words′ reals reals′ r p v h z ep ev (inl some) =
+    let place : measuresEnd p v ≡ measuresEnd (polygonCount s) (vertexCount s) = omega (arith, ep, ev) in
+    sym (count-some-in p v words′ some) ∙ ap (λ (k : ℕ). getD words′ k 0) place ∙ h .count z (omega (arith, some, ep))
+counted-in s words words′ reals reals′ r p v h z ep ev (inr none) =
+    let few : length (readingsOf (partOf s)) ≤ 0 = omega (arith, none, ep, readings-most (partOf s), part-polygons s) in
+    sym (count-none-in p v words′ none) ∙ omega (arith, few)
+
+pub count-in : (s words words′ : List ℕ) (reals reals′ : List Float) (r p v : ℕ) → SamplesAnswer s words words′ reals reals′ r → r ≡ 0 → p ≡ polygonCount s → v ≡ vertexCount s →
+    countIn p v words′ ≡ length (readingsOf (partOf s))
+count-in s words words′ reals reals′ r p v h z ep ev = counted-in s words words′ reals reals′ r p v h z ep ev (lt-or-ge 0 p)

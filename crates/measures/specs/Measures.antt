@@ -35,3 +35,7 @@ pub record RoundsAnswer (s words words′ : List ℕ) (reals reals′ : List Flo
 -- n in the cell after the measures, where there is a polygon and so a cell
 unfoldable pub putCount : ℕ → ℕ → ℕ → List ℕ → List ℕ
 putCount p v n words = cond (ltb 0 p) (set words (measuresEnd p v) n) words
+
+-- what that cell holds, and 0 where there is none
+unfoldable pub countIn : ℕ → ℕ → List ℕ → ℕ
+countIn p v words = cond (ltb 0 p) (getD words (measuresEnd p v) 0) 0

@@ -2,10 +2,11 @@
 ghost use mathlib.Core.Path.{_≡_};
 ghost use Prim.Native.Nat.{_+_, _*_, _≤_, _<_};
 ghost use lib.ListN.{length};
-ghost use Rattle.measures.specs.Measures.{putCount, SamplesAnswer, RoundsAnswer};
+ghost use Rattle.measures.specs.Measures.{putCount, countIn, SamplesAnswer, RoundsAnswer};
 use body::put_body;
 use part::read::polygon_count;
 use part::read::vertex_count;
+use samples::store::wide;
 
 // Keeps the number of readings, for a caller that has nothing but the scratch.
 fn put_count(words: &mut [u32], p: usize, v: usize, n: usize)
@@ -15,6 +16,17 @@ fn put_count(words: &mut [u32], p: usize, v: usize, n: usize)
     if 0 < p {
         words[p + 8 * v + (p + 1024) + 5 * p] = n as u32;
     }
+}
+
+// The number that is kept.
+pub fn reading_count(words: &[u32], p: usize, v: usize) -> usize
+    requires { ⌜ 8 * p + 8 * v + 1024 ≤ length (now words) ⌝ }
+    ensures { λ r. ⌜ r ≡ countIn p v (now (words .entry)) ⌝ }
+{
+    if 0 < p {
+        return wide(words[p + 8 * v + (p + 1024) + 5 * p]);
+    }
+    0
 }
 
 // The body and the readings of a part in the lent scratch; or the refusal from 1 to 10, and nothing changed.

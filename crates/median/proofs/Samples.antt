@@ -1,6 +1,6 @@
 -- Medians computed.
 use mathlib.Core.Path.{_≡_, refl}
-use mathlib.Core.List.{List, [], _∷_}
+use mathlib.Core.List.{[], _∷_}
 use lib.Ieee.{Float, binary64, ofBits, lt, le, add, mul}
 use Rattle.median.specs.Median.{nought, weightTo, reachedAt, halfway, medianOf}
 use Rattle.sorting.specs.Sorted.{comes, put, inOrder}

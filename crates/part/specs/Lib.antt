@@ -1,6 +1,3 @@
--- The part file: what it says, and when it is turned back.
+-- The part file: what it says.
 pub mod Layout
-pub mod Rules
 pub mod Part
-pub mod Verdict
-pub mod Readable

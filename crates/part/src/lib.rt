@@ -1,4 +1,2 @@
-// The part file: leaf functions that read it, and refusals 1 to 7.
+// The part file: leaf functions that read it.
 pub mod read;
-pub mod rules;
-pub mod verdict;

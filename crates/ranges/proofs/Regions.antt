@@ -50,6 +50,16 @@ put-inside a k s x d h i g l =
     ∙ getD-append-add (take a s) (x ++ drop k (drop a s)) (i - a) d
     ∙ List·getD-append x (drop k (drop a s)) d (i - a) (omega (arith, g, l))
 
+pub put-after : {X : Type 0} (a e : ℕ) (s x : List X) (d : X) → a ≤ e → e ≤ length s → length x ≡ e - a → (i : ℕ) → e ≤ i → getD (putMid a (e - a) s x) i d ≡ getD s i d
+put-after {X} a e s x d g h l i r =
+    let place : i ≡ e + (i - e) = omega (arith, r) in
+    let new = putMid a (e - a) s x in
+    ap (λ (k : ℕ). getD new k d) place
+    ∙ sym (getD-drop e new (i - e) d)
+    ∙ ap (λ (z : List X). getD z (i - e) d) (drop-put a e s x g h l)
+    ∙ getD-drop e s (i - e) d
+    ∙ ap (λ (k : ℕ). getD s k d) (sym place)
+
 -- a place of a part
 pub part-place : {X : Type 0} (a e : ℕ) (s : List X) (d : X) (i : ℕ) → i < e - a → getD (part a e s) i d ≡ getD s (a + i) d
 part-place a e s d i l = getD-take (e - a) (drop a s) i d l ∙ getD-drop a s i d

@@ -5,8 +5,7 @@
 --   hit-struck, hit-nothing what a ray's hit says of the polygons
 --   struck-number           no polygon is struck at a NaN
 --   hit-is-nearest, hit-answer, only-hit                a ray's hit is the nearest, and nothing else is
--- StrikeLaws, ScanLaws, CastLaws: the steps of the functions here
+-- StrikeLaws, ScanLaws: the steps of the functions here
 pub mod StrikeLaws
 pub mod NearestLaws
 pub mod ScanLaws
-pub mod CastLaws

@@ -15,7 +15,7 @@ use Rattle.math.specs.Vector.{vec, plus, minus, times, dotOf, crossOf}
 use Rattle.math.specs.Vector as vector
 use Rattle.part.specs.Part.{Part, partOf}
 use Rattle.part.proofs.PartLaws.{part-polygons, part-count}
-use Rattle.part.proofs.ReadableLaws.{readable-run}
+use Rattle.part_rules.proofs.ReadableLaws.{readable-run}
 use Rattle.solid.specs.Faces.{polygonCorner, polygonPlane, Checked}
 use Rattle.solid.proofs.BodyLaws.{checked-readable}
 use Rattle.ray.specs.declared.strike.Ray.{Ray}

@@ -16,10 +16,10 @@ use Rattle.math.specs.Vector.{plus, times, dotOf}
 use Rattle.math.specs.Vector as vector
 use Rattle.part.specs.Layout.{vertexCount, polygonCount, entryAt}
 use Rattle.part.specs.Part.{Part, firstAt, countAt, polygonAt, partOf}
-use Rattle.part.specs.Verdict.{Readable}
-use Rattle.part.proofs.ReadableLaws.{readable-vertex, readable-index}
-use Rattle.solid.specs.declared.polygon.Plane.{Plane}
-use Rattle.solid.specs.Polygon.{cornerAt}
+use Rattle.part_rules.specs.Verdict.{Readable}
+use Rattle.part_rules.proofs.ReadableLaws.{readable-vertex, readable-index}
+use Rattle.polygons.specs.declared.polygon.Plane.{Plane}
+use Rattle.polygons.specs.Polygon.{cornerAt}
 use Rattle.solid.specs.Faces.{polygonCorner, polygonPlane}
 use Rattle.solid.proofs.BodyLaws.{run-room}
 use Rattle.ray.specs.declared.strike.Ray.{Ray}

@@ -2,4 +2,3 @@
 pub mod Corners
 pub mod Strike
 pub mod Nearest
-pub mod Cast

@@ -6,6 +6,7 @@ use Prim.Native.Nat.{ℕ, zero, suc, _<_}
 use lib.Ieee.{Float, binary64, lt, eq, ofBits}
 use Rattle.math.specs.declared.Vec3.{Vec3}
 use Rattle.math.specs.Vector.{plus, times}
+use Rattle.math.specs.Vector as vector
 use Rattle.part.specs.Part.{Part}
 use Rattle.ray.specs.declared.strike.Ray.{Ray}
 use Rattle.ray.specs.declared.strike.Hit.{Hit}
@@ -58,3 +59,14 @@ isNothing Nothing = true
 
 unfoldable pub isOpen : Part → Vec3 → Vec3 → Bool
 isOpen t p dir = isNothing (hitOf t (rayFrom p dir))
+
+-- ---- "For every answer that is an enum, a definition states this paper's number and values for each of the enum's cases"
+-- the polygon, and `none`, one more than the highest, where nothing is struck
+unfoldable pub polygonOr : ℕ → Hit → ℕ
+polygonOr none (At p t) = p
+polygonOr none Nothing = none
+
+-- t, and 0.0 where nothing is struck
+unfoldable pub timeOrZero : Hit → Float
+timeOrZero (At p t) = t
+timeOrZero Nothing = vector.zero

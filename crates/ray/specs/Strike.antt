@@ -8,8 +8,8 @@ use Rattle.math.specs.declared.Vec3.{Vec3}
 use Rattle.math.specs.Vector.{plus, minus, times, dotOf, crossOf}
 use Rattle.math.specs.Vector as vector
 use Rattle.part.specs.Part.{Part}
-use Rattle.solid.specs.declared.polygon.Plane.{Plane}
-use Rattle.solid.specs.Polygon.{after}
+use Rattle.polygons.specs.declared.polygon.Plane.{Plane}
+use Rattle.polygons.specs.Polygon.{after}
 use Rattle.solid.specs.Faces.{polygonCorner, polygonPlane}
 use Rattle.ray.specs.declared.strike.Ray.{Ray}
 

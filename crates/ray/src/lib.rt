@@ -1,5 +1,4 @@
 // Rays through a part (dfm.rs's `raycast`), by trying every polygon.
-pub mod cast;
 pub mod corner;
 pub mod raycast;
 pub mod strike;

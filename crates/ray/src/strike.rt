@@ -6,16 +6,15 @@ ghost use lib.ListN.{length};
 ghost use lib.Ieee.{lt};
 ghost use Rattle.real.specs.Select.{absOf};
 ghost use Rattle.math.specs.Vector.{zero, dotOf};
-ghost use Rattle.solid.specs.Polygon.{cornerAt};
+ghost use Rattle.polygons.specs.Polygon.{cornerAt};
 ghost use Rattle.solid.specs.Kept.{planeAt};
 ghost use Rattle.ray.specs.Corners.{Corners};
 ghost use Rattle.ray.specs.Strike.{e-12, timeOf, pointOf, isWithin};
-ghost use Rattle.ray.specs.Nearest.{improves, isNothing};
-ghost use Rattle.ray.specs.Cast.{polygonOr, timeOrZero};
+ghost use Rattle.ray.specs.Nearest.{improves, isNothing, polygonOr, timeOrZero};
 use crate::corner::corner;
 use math::Vec3;
-use solid::polygon::Plane;
-use solid::polygon::next;
+use polygons::polygon::Plane;
+use polygons::polygon::next;
 
 pub struct Ray {
     pub origin: Vec3,

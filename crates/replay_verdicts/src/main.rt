@@ -47,7 +47,7 @@ fn unpack(file: &mut [u8], packed: &[u8]) -> usize {
 // The number of the file in the first bytes of `room`.
 fn print_number(room: &[u8], length: usize) {
     if length <= room.len() {
-        let verdict = part::verdict::judge(&room[..length]);
+        let verdict = part_rules::verdict::judge(&room[..length]);
         io::print_decimal(STDOUT_FILENO, verdict.refusal() as u64);
         io::write_all(STDOUT_FILENO, b"\n");
     } else {

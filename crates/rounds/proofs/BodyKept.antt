@@ -11,8 +11,8 @@ use Rattle.ranges.proofs.Regions.{part-place}
 use Rattle.part.specs.Part.{Part}
 use Rattle.segments.specs.Sides.{SharedSegments}
 use Rattle.bodies.specs.Body.{Lowest, Touch}
-use Rattle.bodies.specs.Volume.{Volumes}
-use Rattle.bodies.proofs.VolumeLaws.{volumes-same}
+use Rattle.volumes.specs.Volume.{Volumes}
+use Rattle.volumes.proofs.VolumeLaws.{volumes-same}
 use Rattle.solid.specs.Kept.{Faces, KeptPlanes, KeptAreas, FaceAreas}
 use Rattle.body.specs.Regions.{sidesAt, facesAt, wordsEnd, roundKindsAt, areasAt, faceAreasAt, volumesAt, realsEnd, roundsAt}
 use Rattle.body.specs.Body.{Words, Reals}

@@ -12,17 +12,17 @@ use Rattle.math.specs.declared.Vec3.{Vec3}
 use Rattle.field.specs.Field.{vecAt}
 use Rattle.part.specs.Layout.{vertexCount, polygonCount, entryAt}
 use Rattle.part.specs.Part.{Part, firstAt, countAt, polygonAt, partOf}
-use Rattle.part.specs.Rules.{runStart}
-use Rattle.part.specs.Verdict.{Readable}
-use Rattle.part.proofs.PolygonLaws.{start-more}
-use Rattle.part.proofs.ReadableLaws.{readable-run, readable-whole, readable-vertex}
-use Rattle.solid.specs.Polygon.{cornerAt}
+use Rattle.part_rules.specs.Rules.{runStart}
+use Rattle.part_rules.specs.Verdict.{Readable}
+use Rattle.part_rules.proofs.PolygonLaws.{start-more}
+use Rattle.part_rules.proofs.ReadableLaws.{readable-run, readable-whole, readable-vertex}
+use Rattle.polygons.specs.Polygon.{cornerAt}
 use Rattle.solid.specs.Faces.{polygonCorner}
 use Rattle.holes.specs.declared.direction.Direction.{Direction}
 use Rattle.holes.specs.Cells.{Packable, packOf, directionsIn}
 use Rattle.holes.proofs.RoundLaws.{directions-packed, directions-same}
-use Rattle.rounds.specs.declared.frame.Frame.{Frame}
-use Rattle.rounds.specs.Frame.{vertexDirection, runDirections, Central}
+use Rattle.cylinders.specs.declared.frame.Frame.{Frame}
+use Rattle.cylinders.specs.Frame.{vertexDirection, runDirections, Central}
 use Rattle.rounds.specs.Round.{directionsWith, directionsTo}
 use Rattle.rounds.proofs.FrameLaws.{vertex-packable}
 

@@ -24,16 +24,16 @@ use Rattle.part.specs.declared.read.SurfaceKind.{SurfaceKind}
 use Rattle.part.specs.declared.read.SurfaceKind.the-variants.{Plane, Cylinder, Revolved, Other}
 use Rattle.part.specs.Layout.{vertexCount, polygonCount, entryAt}
 use Rattle.part.specs.Part.{partOf, surfaceOf, surfaceAt}
-use Rattle.part.specs.Readable.{SurfaceWithin}
-use Rattle.part.specs.Verdict.{Readable}
+use Rattle.part_rules.specs.Readable.{SurfaceWithin}
+use Rattle.part_rules.specs.Verdict.{Readable}
 use Rattle.part.proofs.PartLaws.{part-polygons, part-surface}
-use Rattle.part.proofs.ReadableLaws.{readable-surface}
+use Rattle.part_rules.proofs.ReadableLaws.{readable-surface}
 use Rattle.solid.specs.Faces.{facesOf, firstPolygon}
 use Rattle.solid.proofs.FaceLaws.{first-polygon-begins}
 use Rattle.holes.specs.Cells.{Packable}
 use Rattle.holes.proofs.DirectionLaws.{direction-packable}
-use Rattle.rounds.specs.declared.frame.Frame.{Frame}
-use Rattle.rounds.specs.Frame.{acrossOf, frameOf, vertexDirection, Central}
+use Rattle.cylinders.specs.declared.frame.Frame.{Frame}
+use Rattle.cylinders.specs.Frame.{acrossOf, frameOf, vertexDirection, Central}
 use Rattle.rounds.specs.Round.{faceSurface, isCylinder, originOf, dirOf, isRound, faceFrame}
 
 -- each component is an f64 that is finite, and at most b in size

@@ -10,9 +10,10 @@ use lib.Seq.{getD-set-same, getD-set-other}
 use lib.Ieee.{Float, nan}
 use Rattle.float.proofs.Tests.{contrary, lt-or-ge}
 use Rattle.part.specs.Part.{Part}
-use Rattle.rounds.specs.declared.measure.Measure.{Measure}
+use Rattle.cylinders.specs.declared.measure.Measure.{Measure}
 use Rattle.rounds.specs.Round.{isRound, faceMeasure}
-use Rattle.rounds.specs.Kept.{roundKind, KeptKinds, measureAt, putMeasure, KeptMeasures}
+use Rattle.rounds.specs.Kept.{roundKind, KeptKinds, KeptMeasures}
+use Rattle.cylinders.specs.Measure.{measureAt, putMeasure}
 
 -- ---- the kinds
 pub kinds-none : (t : Part) (l : List ℕ) → KeptKinds t 0 l

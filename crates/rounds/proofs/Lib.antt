@@ -12,9 +12,7 @@
 -- PutLaws
 --   part-front              a part of what stands before a place, where that is as it was
 --   face-low                a face's number is below the number of polygons
--- RunLaws, ChoiceLaws, BoreLaws, SurfaceLaws, KeptLaws: the steps of the functions here
-pub mod RunLaws
-pub mod ChoiceLaws
+-- BoreLaws, SurfaceLaws, KeptLaws: the steps of the functions here
 pub mod FrameLaws
 pub mod BoreLaws
 pub mod KeptLaws

@@ -17,7 +17,7 @@ use Rattle.part.specs.declared.read.SurfaceKind.{SurfaceKind}
 use Rattle.part.specs.Layout.{vertexCount, polygonCount}
 use Rattle.part.specs.Part.{Part, partOf, surfaceAt}
 use Rattle.part.proofs.PartLaws.{part-polygons, part-surface}
-use Rattle.part.proofs.ReadableLaws.{readable-counts}
+use Rattle.part_rules.proofs.ReadableLaws.{readable-counts}
 use Rattle.solid.specs.Faces.{facesOf, firstPolygon, Checked}
 use Rattle.solid.proofs.BodyLaws.{checked-readable, checked-faces, EntryRoom, entry-room}
 use Rattle.solid.specs.Kept.{Faces}
@@ -25,10 +25,12 @@ use Rattle.solid.proofs.FaceLaws.{first-polygon-begins}
 use Rattle.solid.proofs.CountLaws.{few-faces}
 use Rattle.holes.specs.Direction.{goesRound}
 use Rattle.body.specs.Regions.{roundKindsAt, measuresEnd, roundsAt, directionsAt}
-use Rattle.rounds.specs.declared.frame.Frame.{Frame}
-use Rattle.rounds.specs.Frame.{measureOf}
-use Rattle.rounds.specs.Round.{extentTo, votesTo, directionsTo, faceSurface, isRound, faceFrame, faceMeasure, isConcave, directionsOf, isHole}
-use Rattle.rounds.specs.Kept.{roundKind, KeptKinds, putMeasure, KeptMeasures, CylinderPut, FacePut, StepPut, RoundsPut}
+use Rattle.cylinders.specs.declared.frame.Frame.{Frame}
+use Rattle.cylinders.specs.Frame.{measureOf}
+use Rattle.cylinders.specs.Polygons.{extentTo, votesTo}
+use Rattle.rounds.specs.Round.{directionsTo, faceSurface, isRound, faceFrame, faceMeasure, isConcave, directionsOf, isHole}
+use Rattle.rounds.specs.Kept.{roundKind, KeptKinds, KeptMeasures, CylinderPut, FacePut, StepPut, RoundsPut}
+use Rattle.cylinders.specs.Measure.{putMeasure}
 use Rattle.rounds.proofs.KeptLaws.{kinds-more, measures-more, measures-skip}
 
 -- ---- a part of what stands before a place, where that is as it was

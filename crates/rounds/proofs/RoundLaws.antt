@@ -15,10 +15,11 @@ use Rattle.part.specs.declared.read.SurfaceKind.{SurfaceKind}
 use Rattle.part.specs.Part.{Part}
 use Rattle.solid.specs.Faces.{facesOf}
 use Rattle.body.specs.Regions.{roundKindsAt, measuresEnd, roundsAt, directionsAt}
-use Rattle.rounds.specs.declared.measure.Measure.{Measure}
+use Rattle.cylinders.specs.declared.measure.Measure.{Measure}
 use Rattle.rounds.specs.declared.round.Round.{Round}
 use Rattle.rounds.specs.Round.{faceSurface, originOf, radiusOf, isRound, faceMeasure, isConcave, directionsOf, isHole, roundOf, roundsTo}
-use Rattle.rounds.specs.Kept.{roundKind, KeptKinds, measureAt, KeptMeasures, Rounds}
+use Rattle.rounds.specs.Kept.{roundKind, KeptKinds, KeptMeasures, Rounds}
+use Rattle.cylinders.specs.Measure.{measureAt}
 use Rattle.solid.proofs.CountLaws.{few-faces}
 use Rattle.holes.specs.Direction.{goesRound}
 

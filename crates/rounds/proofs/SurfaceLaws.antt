@@ -13,8 +13,8 @@ use Rattle.part.specs.declared.read.SurfaceKind.{SurfaceKind}
 use Rattle.part.specs.declared.read.SurfaceKind.the-variants.{Plane, Cylinder, Revolved, Other}
 use Rattle.part.specs.Part.{Part}
 use Rattle.part.proofs.read.SurfaceKind as surface-kind
-use Rattle.rounds.specs.declared.frame.Frame.{Frame}
-use Rattle.rounds.specs.Frame.{frameOf}
+use Rattle.cylinders.specs.declared.frame.Frame.{Frame}
+use Rattle.cylinders.specs.Frame.{frameOf}
 use Rattle.rounds.specs.Round.{faceSurface, isCylinder, originOf, dirOf, radiusOf, isRound, faceFrame}
 
 -- its place among the variants, which is what a `match` knows; a cylinder's is 1

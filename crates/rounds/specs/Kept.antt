@@ -2,20 +2,20 @@
 use mathlib.Core.Path.{_≡_}
 use mathlib.Core.Bool.{true, cond}
 use mathlib.Core.List.{List}
-use Prim.Native.Nat.{ℕ, _+_, _*_, _<_}
-use lib.ListN.{length, getD, set}
-use lib.Ieee.{Float, nan, lt}
+use Prim.Native.Nat.{ℕ, _+_, _<_}
+use lib.ListN.{length, getD}
+use lib.Ieee.{Float, lt}
 use Rattle.ranges.specs.Region.{part}
-use Rattle.math.specs.Vector.{vec}
 use Rattle.math.specs.Vector as vector
 use Rattle.part.specs.Part.{Part}
 use Rattle.solid.specs.Faces.{facesOf}
 use Rattle.body.specs.Regions.{roundKindsAt, measuresEnd, roundsAt, directionsAt}
 use Rattle.holes.specs.Direction.{goesRound}
-use Rattle.rounds.specs.declared.frame.Frame.{Frame}
-use Rattle.rounds.specs.declared.measure.Measure.{Measure}
-use Rattle.rounds.specs.Frame.{measureOf}
-use Rattle.rounds.specs.Round.{extentTo, votesTo, directionsTo, isRound, faceMeasure, isConcave, isHole}
+use Rattle.cylinders.specs.declared.frame.Frame.{Frame}
+use Rattle.cylinders.specs.Frame.{measureOf}
+use Rattle.cylinders.specs.Polygons.{extentTo, votesTo}
+use Rattle.cylinders.specs.Measure.{measureAt, putMeasure}
+use Rattle.rounds.specs.Round.{directionsTo, isRound, faceMeasure, isConcave, isHole}
 
 -- ---- what each face is: 0 no round, 1 convex, 2 concave and no hole, 3 a hole
 unfoldable pub roundKind : Part → ℕ → ℕ
@@ -25,22 +25,7 @@ roundKind t f = cond (isRound t f) (cond (isConcave t f) (cond (isHole t f) 3 2)
 pub record KeptKinds (t : Part) (n : ℕ) (l : List ℕ) : Type 0 where
   pub each : (f : ℕ) → f < n → getD l f 0 ≡ roundKind t f
 
--- ---- seven numbers for each face: axis, length and centre
-unfoldable pub measureAt : List Float → ℕ → Measure
-measureAt l f =
-    record {
-      axis = vec (getD l (7 * f) nan) (getD l (7 * f + 1) nan) (getD l (7 * f + 2) nan);
-      length = getD l (7 * f + 3) nan;
-      centre = vec (getD l (7 * f + 4) nan) (getD l (7 * f + 5) nan) (getD l (7 * f + 6) nan);
-    }
-
--- the numbers with m as those of face f
-unfoldable pub putMeasure : List Float → ℕ → Measure → List Float
-putMeasure l f m =
-    set (set (set (set (set (set (set l
-    (7 * f) (m .axis .x)) (7 * f + 1) (m .axis .y)) (7 * f + 2) (m .axis .z)) (7 * f + 3) (m .length))
-    (7 * f + 4) (m .centre .x)) (7 * f + 5) (m .centre .y)) (7 * f + 6) (m .centre .z)
-
+-- ---- axis, length and centre
 -- of each face below n that is a round; those of the others are not said
 pub record KeptMeasures (t : Part) (n : ℕ) (l : List Float) : Type 0 where
   pub each : (f : ℕ) → f < n → isRound t f ≡ true → measureAt l f ≡ faceMeasure t f

@@ -1,4 +1,3 @@
 -- The rounds of a part.
-pub mod Frame
 pub mod Round
 pub mod Kept

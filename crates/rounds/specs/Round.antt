@@ -3,42 +3,23 @@ use mathlib.Core.Bool.{Bool, true, false, _&&_, cond}
 use mathlib.Core.List.{List, [], _∷_, _++_}
 use Prim.Native.Nat.{ℕ, zero, suc}
 use lib.Dec.{eqb}
-use lib.Ieee.{Float, binary64, add, lt}
+use lib.Ieee.{Float, lt}
 use Rattle.math.specs.declared.Vec3.{Vec3}
 use Rattle.math.specs.Vector.{zeroVec}
 use Rattle.math.specs.Vector as vector
 use Rattle.part.specs.declared.read.SurfaceKind.{SurfaceKind}
 use Rattle.part.specs.declared.read.SurfaceKind.the-variants.{Plane, Cylinder, Revolved, Other}
 use Rattle.part.specs.Part.{Part}
-use Rattle.solid.specs.Polygon.{centroidOf}
-use Rattle.solid.specs.Faces.{facesOf, faceNumber, firstPolygon, polygonCorner, polygonPlane, polygonArea}
+use Rattle.solid.specs.Faces.{facesOf, faceNumber, firstPolygon, polygonCorner}
 use Rattle.holes.specs.declared.direction.Direction.{Direction}
 use Rattle.holes.specs.Direction.{goesRound}
-use Rattle.rounds.specs.declared.frame.Frame.{Frame}
-use Rattle.rounds.specs.declared.extent.Extent.{Extent}
-use Rattle.rounds.specs.declared.measure.Measure.{Measure}
+use Rattle.cylinders.specs.declared.frame.Frame.{Frame}
+use Rattle.cylinders.specs.declared.measure.Measure.{Measure}
+use Rattle.cylinders.specs.Frame.{frameOf, measureOf, runDirections}
+use Rattle.cylinders.specs.Polygons.{extentTo, votesTo}
 use Rattle.rounds.specs.declared.round.Round.{Round}
-use Rattle.rounds.specs.Frame.{frameOf, nowhere, runExtent, measureOf, voteOf, runDirections}
 
 -- ---- over the polygons of face f that are below n, rising: each step adds polygon q, where it is of face f
-unfoldable pub extentWith : Part → ℕ → Frame → ℕ → Extent → Extent
-extentWith t f a q e = cond (eqb (faceNumber t q) f) (runExtent a (polygonCorner t q) e (t .polygon q .count)) e
-
-unfoldable pub extentTo : Part → ℕ → Frame → ℕ → Extent
-extentTo t f a zero = nowhere
-extentTo t f a (suc n) = extentWith t f a n (extentTo t f a n)
-
--- polygon p's part in the votes: its normal, dfm.rs's own centroid, and its area
-unfoldable pub polygonVote : Part → Frame → ℕ → Float
-polygonVote t a p = voteOf a (polygonPlane t p .normal) (centroidOf (polygonCorner t p) (t .polygon p .count)) (polygonArea t p)
-
-unfoldable pub votesWith : Part → ℕ → Frame → ℕ → Float → Float
-votesWith t f a q votes = cond (eqb (faceNumber t q) f) (add binary64 votes (polygonVote t a q)) votes
-
-unfoldable pub votesTo : Part → ℕ → Frame → ℕ → Float
-votesTo t f a zero = vector.zero
-votesTo t f a (suc n) = votesWith t f a n (votesTo t f a n)
-
 unfoldable pub directionsWith : Part → ℕ → Frame → ℕ → List Direction → List Direction
 directionsWith t f a q before = cond (eqb (faceNumber t q) f) (before ++ runDirections a (polygonCorner t q) (t .polygon q .count)) before
 

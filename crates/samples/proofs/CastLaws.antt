@@ -10,8 +10,8 @@ use Rattle.math.specs.declared.Vec3.{Vec3}
 use Rattle.math.specs.Vector.{one, plus, times, dotOf}
 use Rattle.part.specs.Layout.{vertexCount, polygonCount}
 use Rattle.part.specs.Part.{Part, firstAt, countAt, polygonAt, partOf}
-use Rattle.solid.specs.declared.polygon.Plane.{Plane}
-use Rattle.solid.specs.Polygon.{half, cornerAt, centroidOf}
+use Rattle.polygons.specs.declared.polygon.Plane.{Plane}
+use Rattle.polygons.specs.Polygon.{half, cornerAt, centroidOf}
 use Rattle.solid.specs.Faces.{polygonCorner, polygonPlane}
 use Rattle.solid.specs.Kept.{planeAt}
 use Rattle.ray.specs.declared.strike.Ray.{Ray}

@@ -14,7 +14,7 @@ use Rattle.math.specs.declared.Vec3.{Vec3}
 use Rattle.math.specs.Vector as vector
 use Rattle.part.specs.Part.{Part, partOf}
 use Rattle.part.proofs.PartLaws.{part-vertices, part-polygons}
-use Rattle.solid.specs.declared.polygon.Plane.{Plane}
+use Rattle.polygons.specs.declared.polygon.Plane.{Plane}
 use Rattle.solid.specs.Faces.{facesOf, faceNumber, polygonArea, polygonPlane}
 use Rattle.solid.specs.Kept.{planeAt, KeptPlanes}
 use Rattle.body.specs.Regions.{readingsAt, hitsAt, thicknessAt, readingAreasAt}

@@ -13,11 +13,11 @@ use Rattle.math.specs.Vector as vector
 use Rattle.part.specs.Layout.{vertexCount, polygonCount}
 use Rattle.part.specs.Part.{Part, partOf}
 use Rattle.part.proofs.PartLaws.{part-vertices, part-polygons}
-use Rattle.part.proofs.ReadableLaws.{readable-counts}
+use Rattle.part_rules.proofs.ReadableLaws.{readable-counts}
 use Rattle.segments.specs.Sides.{SharedSegments}
 use Rattle.bodies.specs.Body.{Lowest, Touch}
-use Rattle.bodies.specs.Volume.{Volumes}
-use Rattle.bodies.proofs.VolumeLaws.{volumes-same}
+use Rattle.volumes.specs.Volume.{Volumes}
+use Rattle.volumes.proofs.VolumeLaws.{volumes-same}
 use Rattle.solid.specs.Faces.{Checked, facesOf}
 use Rattle.solid.specs.Kept.{Faces, FaceNumbers, KeptPlanes, KeptAreas, FaceAreas}
 use Rattle.solid.proofs.BodyLaws.{checked-readable, checked-faces}

@@ -13,8 +13,7 @@ use Rattle.ranges.specs.Region.{part}
 use Rattle.part.specs.Part.{Part, partOf}
 use Rattle.solid.specs.Faces.{polygonArea}
 use Rattle.solid.specs.Kept.{KeptPlanes, KeptAreas, FaceNumbers, FaceAreas}
-use Rattle.body.specs.Regions.{facesAt, wordsEnd, readingsAt, hitsAt, orderAt, roundKindsAt}
-use Rattle.body.specs.Regions.{areasAt, faceAreasAt, volumesAt, fallingAt, thicknessAt, readingAreasAt, roundsAt}
+use Rattle.body.specs.Regions.{facesAt, wordsEnd, readingsAt, hitsAt, orderAt, roundKindsAt, areasAt, faceAreasAt, volumesAt, fallingAt, thicknessAt, readingAreasAt, roundsAt}
 use Rattle.starts.specs.Kept.{KeptFalling}
 use Rattle.starts.proofs.KeptLaws.{part-below}
 use Rattle.samples.specs.Samples.{Reading}

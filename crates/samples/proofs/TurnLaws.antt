@@ -14,7 +14,7 @@ use Rattle.ranges.specs.Region.{part}
 use Rattle.ranges.proofs.Regions.{part-length, part-place}
 use Rattle.part.specs.Layout.{polygonCount}
 use Rattle.part.specs.Part.{Part, partOf}
-use Rattle.part.proofs.ReadableLaws.{readable-counts}
+use Rattle.part_rules.proofs.ReadableLaws.{readable-counts}
 use Rattle.solid.specs.Kept.{KeptPlanes}
 use Rattle.solid.proofs.BodyLaws.{checked-readable}
 use Rattle.body.specs.Regions.{orderAt}

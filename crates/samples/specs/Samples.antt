@@ -9,7 +9,7 @@ use Rattle.math.specs.declared.Vec3.{Vec3}
 use Rattle.math.specs.Vector.{one, plus, times, dotOf}
 use Rattle.math.specs.Vector as vector
 use Rattle.part.specs.Part.{Part}
-use Rattle.solid.specs.Polygon.{half, centroidOf}
+use Rattle.polygons.specs.Polygon.{half, centroidOf}
 use Rattle.solid.specs.Faces.{polygonCorner, polygonPlane, polygonArea, faceNumber, facesOf}
 use Rattle.ray.specs.declared.strike.Ray.{Ray}
 use Rattle.ray.specs.declared.strike.Hit.{Hit}

@@ -9,8 +9,7 @@ use Rattle.part.specs.Layout.{vertexCount, polygonCount}
 use Rattle.part.specs.Part.{Part, partOf}
 use Rattle.solid.specs.Faces.{Checked, polygonArea}
 use Rattle.solid.specs.Kept.{KeptPlanes, KeptAreas, FaceNumbers, FaceAreas}
-use Rattle.body.specs.Regions.{facesAt, wordsEnd, readingsAt, hitsAt, orderAt, roundKindsAt}
-use Rattle.body.specs.Regions.{areasAt, faceAreasAt, volumesAt, fallingAt, thicknessAt, readingAreasAt, roundsAt}
+use Rattle.body.specs.Regions.{facesAt, wordsEnd, readingsAt, hitsAt, orderAt, roundKindsAt, areasAt, faceAreasAt, volumesAt, fallingAt, thicknessAt, readingAreasAt, roundsAt}
 use Rattle.starts.specs.Kept.{KeptFalling}
 use Rattle.ray.specs.declared.strike.Hit.{Hit}
 use Rattle.ray.specs.declared.strike.Hit.the-variants.{At, Nothing}

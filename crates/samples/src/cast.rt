@@ -6,7 +6,7 @@ ghost use lib.ListN.{length};
 ghost use Rattle.math.specs.Vector.{dotOf};
 ghost use Rattle.part.specs.Layout.{vertexCount, polygonCount};
 ghost use Rattle.part.specs.Part.{partOf};
-ghost use Rattle.solid.specs.Polygon.{half};
+ghost use Rattle.polygons.specs.Polygon.{half};
 ghost use Rattle.solid.specs.Faces.{Checked};
 ghost use Rattle.solid.specs.Kept.{planeAt};
 ghost use Rattle.ray.specs.Nearest.{hitOf};
@@ -15,11 +15,11 @@ ghost use Rattle.samples.specs.Stored.{Castable, HitBelow};
 use math::Vec3;
 use part::read::first_vertex;
 use part::read::run_length;
+use polygons::polygon::centroid;
 use ray::raycast::raycast;
 use ray::strike::Hit;
 use ray::strike::Ray;
 use ray::strike::plane_at;
-use solid::polygon::centroid;
 
 // dfm.rs's centroid of polygon p, in a file with v vertices.
 pub fn centroid_of(file: &[u8], v: usize, p: usize) -> Vec3

@@ -5,25 +5,12 @@
 --   key-within              the size of a key; coordinate-key: for 1e4 and an accepted coordinate
 --   from-zero-same, from-zero-le   keys counted from 0 fall together only where they agree
 --   sum-fits, cast-fits, cast-is   the code that counts from 0
--- CountLaws: how many numbers pass a test, and the highest that does
--- SideLaws: sides-alike       sides of one key have it of each other and in a row, where ends do
--- MeaningLaws: what `pairOf` means
---   shared-pair, pair-shared, alone-pair, pair-alone, many-pair, pair-many
 -- RunLaws: side-owned        each side of an accepted file lies in the run of its polygon, and ends at a vertex
 -- SharedLaws: what the columns say after `shared_segments`
 --   segment-shared, shared-segment   a pair of u + 1 above s is a shared segment, and back
 --   side-alone, alone-side  a pair of s + 1 is a side that is alone
 --   side-many, many-side    a pair of V + 1 is the first of more than two
 --   part-sides-alike, part-side-self
-pub mod CountLaws
-pub mod SideLaws
-pub mod CellLaws
-pub mod PairLaws
-pub mod MeaningLaws
-pub mod ColumnLaws
-pub mod WalkLaws
-pub mod ChainLaws
-pub mod StepLaws
 pub mod KeyLaws
 pub mod RunLaws
 pub mod RowLaws

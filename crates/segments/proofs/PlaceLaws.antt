@@ -9,13 +9,12 @@ use Rattle.math.specs.Size.{VecWithin}
 use Rattle.field.specs.Field.{vecAt}
 use Rattle.part.specs.Layout.{vertexCount, polygonCount, entryAt}
 use Rattle.part.specs.Part.{firstAt, countAt, Part, partOf}
-use Rattle.part.specs.Verdict.{Readable}
-use Rattle.part.proofs.ReadableLaws.{readable-length, readable-counts, readable-run, readable-whole}
+use Rattle.part_rules.specs.Verdict.{Readable}
+use Rattle.part_rules.proofs.ReadableLaws.{readable-length, readable-counts, readable-run, readable-whole, readable-vertex}
 use Rattle.segments.specs.Sides.{nextOf, toOf}
 use Rattle.segments.specs.Stages.{sideRow, Lent, Placed, PlacedBelow, OwnsMore, startOf, RunAt, OwnsRun}
-use Rattle.segments.proofs.CountLaws.{newest}
-use Rattle.segments.proofs.CellLaws.{put-cell, keep-cell}
-use Rattle.part.proofs.ReadableLaws.{readable-vertex}
+use Rattle.pairs.proofs.CountLaws.{newest}
+use Rattle.pairs.proofs.CellLaws.{put-cell, keep-cell}
 use Rattle.segments.proofs.RunLaws.{first-start, next-start, start-inside, owner-is, to-is, to-inside}
 use Rattle.segments.proofs.RowLaws.{row-x, row-y, row-z, row-end, row-other}
 

@@ -6,7 +6,7 @@ use native.Mathlib.Omega.{arith}
 use lib.ListN.{length, set, length-set}
 use lib.Seq.{getD-set-same, getD-set-other}
 use Rattle.math.specs.declared.Vec3.{Vec3}
-use Rattle.segments.specs.Columns.{col}
+use Rattle.pairs.specs.Columns.{col}
 use Rattle.segments.specs.Stages.{cellOf, sideRow}
 
 module _ (w : Vec3) (mem : List ℕ) (s to : ℕ) where

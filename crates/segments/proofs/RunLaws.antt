@@ -13,12 +13,12 @@ use Rattle.ranges.specs.Below.{sumBelow}
 use Rattle.ranges.proofs.Below.{sum-none, sum-more, sum-within}
 use Rattle.part.specs.Layout.{vertexCount, polygonCount, entryAt}
 use Rattle.part.specs.Part.{countAt, polygonAt, Part, partOf}
-use Rattle.part.specs.Rules.{runStart}
-use Rattle.part.specs.Verdict.{Readable}
-use Rattle.part.proofs.ReadableLaws.{readable-run, readable-whole}
+use Rattle.part_rules.specs.Rules.{runStart}
+use Rattle.part_rules.specs.Verdict.{Readable}
+use Rattle.part_rules.proofs.ReadableLaws.{readable-run, readable-whole}
 use Rattle.segments.specs.Sides.{runEnd, ownerOf, nextOf, toOf, Owned}
 use Rattle.segments.specs.Stages.{startOf}
-use Rattle.segments.proofs.CountLaws.{newest}
+use Rattle.pairs.proofs.CountLaws.{newest}
 
 -- ---- how many ends of runs that follow on are not above i: run p begins where those below it end
 module _ (term : ℕ → ℕ) (end : ℕ → ℕ) (n : ℕ) (ends : (q : ℕ) → q < n → end q ≡ sumBelow (q + 1) term) where

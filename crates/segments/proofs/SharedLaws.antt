@@ -11,18 +11,17 @@ use Rattle.float.specs.Within.{Within}
 use Rattle.math.specs.Size.{VecWithin}
 use Rattle.field.specs.Test.{ten-thousand}
 use Rattle.part.specs.Part.{Part, partOf}
-use Rattle.part.proofs.ReadableLaws.{readable-counts}
+use Rattle.part_rules.proofs.ReadableLaws.{readable-counts, readable-vertex}
 use Rattle.segments.specs.Key.{keyPart, sameInt, sameKey, keyCell}
-use Rattle.segments.specs.Pair.{pairOf}
-use Rattle.segments.specs.Columns.{col, sameCells, sideCells, Sides, Paired}
+use Rattle.pairs.specs.Pair.{pairOf}
+use Rattle.pairs.specs.Columns.{col, sameCells, sideCells, Sides, Paired}
 use Rattle.segments.specs.Sides.{toOf, sameEnd, live, sameSide, SharedBy, AloneIn, FirstOfMany, SharedSegments}
 use Rattle.segments.specs.Stages.{cellOf, Lent, PlacedBelow, OwnsMore}
-use Rattle.segments.proofs.CellLaws.{kept-column}
-use Rattle.segments.proofs.SideLaws.{Alike, side-same, sides-alike, side-self}
-use Rattle.segments.proofs.MeaningLaws.{shared-pair, pair-shared, alone-pair, pair-alone, many-pair, pair-many}
-use Rattle.segments.proofs.PairLaws.{pair-same}
+use Rattle.pairs.proofs.CellLaws.{kept-column}
+use Rattle.pairs.proofs.SideLaws.{Alike, side-same, sides-alike, side-self}
+use Rattle.pairs.proofs.MeaningLaws.{shared-pair, pair-shared, alone-pair, pair-alone, many-pair, pair-many}
+use Rattle.pairs.proofs.PairLaws.{pair-same}
 use Rattle.segments.proofs.RunLaws.{side-owned}
-use Rattle.part.proofs.ReadableLaws.{readable-vertex}
 use Rattle.segments.proofs.KeyLaws.{from-zero-same, coordinate-key, key-self, key-flip, key-join}
 
 -- ---- the keys of a part's vertices and sides

@@ -1,6 +1,4 @@
 -- What the shared segments of a part are, and what the columns hold that find them.
 pub mod Key
-pub mod Pair
-pub mod Columns
 pub mod Sides
 pub mod Stages

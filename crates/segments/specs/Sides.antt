@@ -11,8 +11,8 @@ use Rattle.ranges.specs.Below.{sumBelow}
 use Rattle.field.specs.Test.{ten-thousand}
 use Rattle.part.specs.Part.{Part}
 use Rattle.segments.specs.Key.{sameKey}
-use Rattle.segments.specs.Pair.{isLive, sideKey, pairOf, Shared, Alone, Many}
-use Rattle.segments.specs.Columns.{col}
+use Rattle.pairs.specs.Pair.{isLive, sideKey, pairOf, Shared, Alone, Many}
+use Rattle.pairs.specs.Columns.{col}
 
 -- the vertex after the run of polygon p
 unfoldable pub runEnd : Part → ℕ → ℕ

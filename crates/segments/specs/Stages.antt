@@ -8,10 +8,10 @@ use Rattle.math.specs.declared.Vec3.{Vec3}
 use Rattle.field.specs.Test.{ten-thousand}
 use Rattle.part.specs.Layout.{vertexCount}
 use Rattle.part.specs.Part.{Part, partOf}
-use Rattle.part.specs.Rules.{runStart}
-use Rattle.part.specs.Verdict.{Readable}
+use Rattle.part_rules.specs.Rules.{runStart}
+use Rattle.part_rules.specs.Verdict.{Readable}
 use Rattle.segments.specs.Key.{keyCell}
-use Rattle.segments.specs.Columns.{col}
+use Rattle.pairs.specs.Columns.{col}
 use Rattle.segments.specs.Sides.{ownerOf, toOf}
 
 -- where the run of polygon p of a file begins

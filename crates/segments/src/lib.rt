@@ -1,4 +1,3 @@
 // The shared segments of a part.
-pub mod chains;
 pub mod key;
 pub mod shared;

@@ -19,9 +19,9 @@ use Rattle.math.specs.Vector as vector
 use Rattle.math.specs.Size.{VecWithin}
 use Rattle.part.specs.Layout.{vertexCount, polygonCount, entryAt}
 use Rattle.part.specs.Part.{partOf, polygonAt, firstAt, countAt}
-use Rattle.part.specs.Verdict.{Readable}
-use Rattle.part.proofs.ReadableLaws.{readable-counts, readable-run, readable-vertex, readable-index}
-use Rattle.solid.specs.Polygon.{half, triangleArea, areaTo, areaOf}
+use Rattle.part_rules.specs.Verdict.{Readable}
+use Rattle.part_rules.proofs.ReadableLaws.{readable-counts, readable-run, readable-vertex, readable-index}
+use Rattle.polygons.specs.Polygon.{half, triangleArea, areaTo, areaOf}
 use Rattle.solid.specs.Faces.{faceNumber, polygonCorner, polygonArea, faceAreaTo, faceArea}
 use Rattle.sizes.specs.Sizes.{Near, Area}
 use Rattle.sizes.proofs.Vectors.{minus-within, cross-within, vec-length-within, vec-length-nonneg}

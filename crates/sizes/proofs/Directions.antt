@@ -21,7 +21,7 @@ use Rattle.field.specs.Test.{quarter}
 use Rattle.field.specs.Direction.{Directed}
 use Rattle.part.specs.declared.read.SurfaceKind.the-variants.{Plane, Cylinder, Revolved, Other}
 use Rattle.part.specs.Part.{surfaceOf, surfaceAt}
-use Rattle.solid.specs.Polygon.{half}
+use Rattle.polygons.specs.Polygon.{half}
 use Rattle.sizes.specs.Sizes.{VecFits, SurfaceFits}
 use Rattle.sizes.proofs.Vectors.{square-finite}
 

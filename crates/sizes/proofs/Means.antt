@@ -20,7 +20,7 @@ use Rattle.float.proofs.Within.{held-small, ratio-within, div-within, whole-wit
 use Rattle.float.proofs.Units.{units-are}
 use Rattle.float.proofs.Error.{div-error}
 use Rattle.math.specs.Vector.{one}
-use Rattle.solid.specs.Polygon.{real}
+use Rattle.polygons.specs.Polygon.{real}
 
 -- a count is held exactly
 real-value : (k : ℕ) → k ≤ 2 ^ 53 → num (real k) ≡ k * den (real k)

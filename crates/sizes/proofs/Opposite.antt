@@ -24,7 +24,7 @@ use Rattle.float.proofs.Units.{fits-short, units-are, units-under, exponent, un
 use Rattle.math.specs.declared.Vec3.{Vec3}
 use Rattle.math.specs.Vector.{one, times, dotOf}
 use Rattle.math.specs.Size.{VecWithin}
-use Rattle.solid.specs.Polygon.{half}
+use Rattle.polygons.specs.Polygon.{half}
 
 -- ---- the same size, and the other sign unless it is zero
 abbrev pub Opposite : Float → Float → Type 0

@@ -20,9 +20,9 @@ use Rattle.math.specs.Size.{VecWithin}
 use Rattle.part.specs.Layout.{polygonCount}
 use Rattle.part.specs.Part.{partOf}
 use Rattle.part.proofs.PartLaws.{part-count}
-use Rattle.part.proofs.ReadableLaws.{readable-run}
-use Rattle.solid.specs.Polygon.{after, newellStep, newellTo, newellOf, cornersTo, real, planeCentroid, centroidOf}
-use Rattle.solid.specs.Plane.{e-14, isFlat, normalOf, planeOf}
+use Rattle.part_rules.proofs.ReadableLaws.{readable-run}
+use Rattle.polygons.specs.Polygon.{after, newellStep, newellTo, newellOf, cornersTo, real, planeCentroid, centroidOf}
+use Rattle.polygons.specs.Plane.{e-14, isFlat, normalOf, planeOf}
 use Rattle.solid.specs.Faces.{polygonCorner, polygonFlat, polygonPlane, Checked}
 use Rattle.solid.proofs.BodyLaws.{checked-readable, checked-flat}
 use Rattle.sizes.specs.Sizes.{Near, VecFits, PlaneWithin}

@@ -9,7 +9,7 @@ use Rattle.math.specs.Size.{VecWithin}
 use Rattle.part.specs.declared.read.SurfaceKind.{SurfaceKind}
 use Rattle.part.specs.declared.read.SurfaceKind.the-variants.{Plane, Cylinder, Revolved, Other}
 use Rattle.part.specs.Part.{Part}
-use Rattle.solid.specs.Polygon.{centroidOf}
+use Rattle.polygons.specs.Polygon.{centroidOf}
 use Rattle.solid.specs.Faces.{polygonCorner, polygonPlane}
 
 -- the corners c below n have coordinates of at most 10,000 in size: "coordinates and origins within ±1e4"

@@ -13,19 +13,17 @@ use Rattle.float.proofs.Tests.{contrary}
 use Rattle.ranges.specs.Below.{allBelow}
 use Rattle.ranges.proofs.Below.{all-none, all-more, all-each, all-fails}
 use Rattle.part.specs.declared.read.FaceId.{FaceId}
-use Rattle.part.specs.declared.verdict.Verdict.{Verdict}
-use Rattle.part.specs.declared.verdict.Verdict.the-variants.{Accepted, TooShort, WrongEdition, TooLarge, WrongLength}
-use Rattle.part.specs.declared.verdict.Verdict.the-variants.{BadJob, BadVertex, BadPolygon, FlatPolygon, TooManyFaces}
+use Rattle.part_rules.specs.declared.verdict.Verdict.{Verdict}
+use Rattle.part_rules.specs.declared.verdict.Verdict.the-variants.{Accepted, TooShort, WrongEdition, TooLarge, WrongLength, BadJob, BadVertex, BadPolygon, FlatPolygon, TooManyFaces}
 use Rattle.part.specs.Layout.{vertexCount, polygonCount, entryAt}
 use Rattle.part.specs.Part.{Part, faceAt, firstAt, countAt, polygonAt, partOf}
-use Rattle.part.specs.Verdict.{number, verdictOf, Readable}
+use Rattle.part_rules.specs.Verdict.{number, verdictOf, Readable}
 use Rattle.part.proofs.PartLaws.{part-polygons}
-use Rattle.part.proofs.ReadableLaws.{readable-length, readable-counts, readable-run}
-use Rattle.solid.specs.declared.polygon.Plane.{Plane}
-use Rattle.solid.specs.Polygon.{cornerAt, areaOf}
-use Rattle.solid.specs.Plane.{isFlat, planeOf}
-use Rattle.solid.specs.Faces.{sameFace, facesOf, faceNumber, polygonCorner, polygonFlat, polygonPlane, polygonArea}
-use Rattle.solid.specs.Faces.{someFlat, tooManyFaces, bodyVerdict, Checked}
+use Rattle.part_rules.proofs.ReadableLaws.{readable-length, readable-counts, readable-run}
+use Rattle.polygons.specs.declared.polygon.Plane.{Plane}
+use Rattle.polygons.specs.Polygon.{cornerAt, areaOf}
+use Rattle.polygons.specs.Plane.{isFlat, planeOf}
+use Rattle.solid.specs.Faces.{sameFace, facesOf, faceNumber, polygonCorner, polygonFlat, polygonPlane, polygonArea, someFlat, tooManyFaces, bodyVerdict, Checked}
 use Rattle.solid.specs.Kept.{Firsts}
 use Rattle.solid.proofs.FaceLaws.{count-grows, number-below}
 

@@ -14,9 +14,7 @@ use Rattle.float.proofs.Tests.{contrary, lt-or-ge, refuted}
 use Rattle.part.specs.Part.{Part}
 use Rattle.solid.specs.Faces.{sameFace, firstOf, isNew, faceCount, facesOf, faceNumber, firstPolygon}
 use Rattle.solid.specs.Kept.{from, Firsts, FaceNumbers, Faces}
-use Rattle.solid.proofs.FaceLaws.{first-le, first-same, first-new, is-new, is-same}
-use Rattle.solid.proofs.FaceLaws.{count-start, count-new, count-old, count-grows, count-passes, new-apart}
-use Rattle.solid.proofs.FaceLaws.{number-new, number-first, number-below, number-same, first-polygon-new}
+use Rattle.solid.proofs.FaceLaws.{first-le, first-same, first-new, is-new, is-same, count-start, count-new, count-old, count-grows, count-passes, new-apart, number-new, number-first, number-below, number-same, first-polygon-new}
 
 -- ---- the face of the next polygon
 -- one of those so far

@@ -15,7 +15,7 @@ use borrow.Author.Tests.{eq-eqb, ne-eqb}
 use Rattle.float.proofs.Tests.{lt-or-ge}
 use Rattle.math.specs.Vector as vector
 use Rattle.part.specs.Part.{Part}
-use Rattle.solid.specs.declared.polygon.Plane.{Plane}
+use Rattle.polygons.specs.declared.polygon.Plane.{Plane}
 use Rattle.solid.specs.Faces.{faceNumber, polygonArea, polygonPlane, faceAreaTo, faceArea}
 use Rattle.solid.specs.Kept.{KeptAreas, Zeros, AreasTo, FaceAreas, planeAt, putPlane, KeptPlanes}
 

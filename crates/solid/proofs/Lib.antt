@@ -13,11 +13,9 @@
 --   is-readable, is-checked                             from the number of the verdict
 --   readable-long, entry-room, run-room, polygons-are   room in the file, in the words of the functions that read it
 --   run-flat, run-plane, run-area, one-face             a polygon of the part, in the same words
--- CornerLaws, FirstLaws, KeptLaws: the steps of the functions here
-pub mod CornerLaws
+-- FirstLaws, KeptLaws: the steps of the functions here
 pub mod FaceLaws
 pub mod CountLaws
 pub mod FirstLaws
 pub mod BodyLaws
 pub mod KeptLaws
-pub mod SegmentLaws

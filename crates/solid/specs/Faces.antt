@@ -10,13 +10,13 @@ use Rattle.ranges.specs.Below.{allBelow, countBelow, lowestBelow}
 use Rattle.math.specs.declared.Vec3.{Vec3}
 use Rattle.math.specs.Vector as vector
 use Rattle.part.specs.declared.read.FaceId.{FaceId}
-use Rattle.part.specs.declared.verdict.Verdict.{Verdict}
-use Rattle.part.specs.declared.verdict.Verdict.the-variants.{Accepted, FlatPolygon, TooManyFaces}
+use Rattle.part_rules.specs.declared.verdict.Verdict.{Verdict}
+use Rattle.part_rules.specs.declared.verdict.Verdict.the-variants.{Accepted, FlatPolygon, TooManyFaces}
 use Rattle.part.specs.Part.{Part, partOf}
-use Rattle.part.specs.Verdict.{number, verdictOf}
-use Rattle.solid.specs.declared.polygon.Plane.{Plane}
-use Rattle.solid.specs.Polygon.{areaOf}
-use Rattle.solid.specs.Plane.{isFlat, planeOf}
+use Rattle.part_rules.specs.Verdict.{number, verdictOf}
+use Rattle.polygons.specs.declared.polygon.Plane.{Plane}
+use Rattle.polygons.specs.Polygon.{areaOf}
+use Rattle.polygons.specs.Plane.{isFlat, planeOf}
 
 -- ---- "in order of first appearance"
 -- feature and index agree

@@ -8,7 +8,7 @@ use lib.Ieee.{Float, nan}
 use Rattle.math.specs.Vector.{vec}
 use Rattle.math.specs.Vector as vector
 use Rattle.part.specs.Part.{Part}
-use Rattle.solid.specs.declared.polygon.Plane.{Plane}
+use Rattle.polygons.specs.declared.polygon.Plane.{Plane}
 use Rattle.solid.specs.Faces.{isNew, faceCount, facesOf, faceNumber, firstPolygon, polygonArea, polygonPlane, faceAreaTo, faceArea}
 
 -- ---- faces

@@ -1,6 +1,3 @@
--- The body of a part: polygons' planes, areas and centroids, its faces, and what the stages keep of them.
-pub mod Polygon
-pub mod Plane
+-- The faces of a part, the planes and areas of its polygons, and what the stages keep of them.
 pub mod Faces
 pub mod Kept
-pub mod Segment

@@ -7,12 +7,12 @@ ghost use Rattle.part.specs.Layout.{polygonCount};
 ghost use Rattle.part.specs.Part.{partOf};
 ghost use Rattle.solid.specs.Faces.{Checked};
 ghost use Rattle.solid.specs.Kept.{KeptAreas, Zeros, putPlane, KeptPlanes};
-use crate::polygon::Plane;
-use crate::polygon::poly_area;
 use part::read::first_vertex;
 use part::read::polygon_count;
 use part::read::run_length;
 use part::read::vertex_count;
+use polygons::polygon::Plane;
+use polygons::polygon::poly_area;
 
 // The area of each polygon.
 pub fn put_areas(file: &[u8], areas: &mut [f64])

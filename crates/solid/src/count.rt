@@ -6,7 +6,7 @@ ghost use lib.Dec.{eqb};
 ghost use lib.ListN.{length};
 ghost use Rattle.part.specs.Layout.{polygonCount};
 ghost use Rattle.part.specs.Part.{partOf};
-ghost use Rattle.part.specs.Verdict.{Readable};
+ghost use Rattle.part_rules.specs.Verdict.{Readable};
 ghost use Rattle.solid.specs.Faces.{facesOf};
 ghost use Rattle.solid.specs.Kept.{FaceNumbers};
 

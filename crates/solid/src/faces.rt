@@ -6,7 +6,7 @@ ghost use lib.Dec.{eqb, leb};
 ghost use lib.ListN.{length, set};
 ghost use Rattle.part.specs.Layout.{vertexCount, polygonCount};
 ghost use Rattle.part.specs.Part.{partOf};
-ghost use Rattle.part.specs.Verdict.{Readable};
+ghost use Rattle.part_rules.specs.Verdict.{Readable};
 ghost use Rattle.solid.specs.Faces.{sameFace, facesOf, faceNumber, Checked};
 ghost use Rattle.solid.specs.Kept.{from, Firsts, Faces};
 use part::read::FaceId;

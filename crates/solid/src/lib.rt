@@ -1,7 +1,5 @@
-// The body of a part: solid.rs's polygons, and what dfm.rs makes of them before its rules run.
+// The faces of a part, the planes and areas of its polygons, and refusals 8 and 9.
 pub mod areas;
 pub mod count;
 pub mod faces;
-pub mod polygon;
-pub mod segment;
 pub mod verdict;

@@ -1,15 +1,15 @@
 // Refusals 8 and 9 of a part file, after those of the crate below.
 ghost use mathlib.Core.Path.{_≡_};
 ghost use Rattle.part.specs.Part.{partOf};
-ghost use Rattle.part.specs.Verdict.{Readable};
+ghost use Rattle.part_rules.specs.Verdict.{Readable};
 ghost use Rattle.solid.specs.Faces.{someFlat, bodyVerdict};
 use crate::faces::few_faces;
-use crate::polygon::is_flat;
 use part::read::first_vertex;
 use part::read::polygon_count;
 use part::read::run_length;
 use part::read::vertex_count;
-use part::verdict::Verdict;
+use part_rules::verdict::Verdict;
+use polygons::polygon::is_flat;
 
 // Whether `Polygon::new` would refuse some polygon.
 fn any_flat(file: &[u8]) -> bool
@@ -33,7 +33,7 @@ fn any_flat(file: &[u8]) -> bool
 pub fn judge(file: &[u8]) -> Verdict
     ensures { λ r. ⌜ r ≡ bodyVerdict (now (file .entry)) ⌝ }
 {
-    let verdict = part::verdict::judge(file);
+    let verdict = part_rules::verdict::judge(file);
     if verdict.refusal() != 0 {
         return verdict;
     }

@@ -7,12 +7,13 @@ use native.Mathlib.Nat.{sub-zero}
 use native.Mathlib.Omega.{arith}
 use lib.Dec.{ltb}
 use lib.ListN.{length, take, drop}
-use borrow.Author.Tests.{ne-eqb, lt-ltb, le-ltb}
+use borrow.Author.Tests.{lt-ltb, le-ltb}
 use borrow.Rule.Slice.PartMut.{putMid, drop-put}
 use Rattle.ranges.proofs.Regions.{part-put}
-use Rattle.part.specs.declared.verdict.Verdict.{Verdict}
+use Rattle.part_rules.specs.declared.verdict.Verdict.{Verdict}
 use Rattle.part.specs.Part.{Part, partOf}
-use Rattle.part.specs.Verdict.{number, verdictOf, Readable}
+use Rattle.part_rules.specs.Verdict.{number, verdictOf, Readable}
+use Rattle.part_rules.proofs.RefusalLaws.{earlier-is, earlier-none}
 use Rattle.stages.specs.Stage.{stageRefusal, StagePut}
 
 module _ (s mem : List ℕ) (need : ℕ) (Holds : Part → List ℕ → Type 0) where
@@ -20,7 +21,7 @@ module _ (s mem : List ℕ) (need : ℕ) (Holds : Part → List ℕ → Type 0) 
   unfolding stageRefusal
   stage-refused x r e q other =
       record {
-        answer = q ∙ ap number e ∙ ap (λ (b : Bool). cond b (cond (ltb (length mem) need) 10 0) (number (verdictOf s))) (sym (ne-eqb _ _ (λ z. other (q ∙ ap number e ∙ z))));
+        answer = earlier-is r (number (verdictOf s)) (ltb (length mem) need) (q ∙ ap number e) other;
         refused = λ _. refl;
         holds = λ z. absurd (other z);
         past = λ z. absurd (other z);
@@ -28,7 +29,7 @@ module _ (s mem : List ℕ) (need : ℕ) (Holds : Part → List ℕ → Type 0) 
 
   stage-ten : (b : Bool) → Readable s → ltb (length mem) need ≡ b → cond b 10 0 ≡ stageRefusal s need (length mem)
   unfolding stageRefusal Readable number
-  stage-ten b h t = rw (h, t)
+  stage-ten b h t = earlier-none _ _ b (rw (h)) t
 
   -- n is the number of cells needed, as the code has it
   pub stage-short : (n : ℕ) → n ≡ need → Readable s → length mem < n → StagePut s need Holds mem mem 10

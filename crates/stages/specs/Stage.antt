@@ -1,16 +1,15 @@
 -- The answer of a stage that is asked for alone, and what it leaves in the lent cells. Definitions only.
 use mathlib.Core.Path.{_≡_}
-use mathlib.Core.Bool.{cond}
 use mathlib.Core.List.{List}
 use Prim.Native.Nat.{ℕ}
-use lib.Dec.{eqb, ltb}
+use lib.Dec.{ltb}
 use lib.ListN.{length, take, drop}
 use Rattle.part.specs.Part.{Part, partOf}
-use Rattle.part.specs.Verdict.{number, verdictOf}
+use Rattle.part_rules.specs.Verdict.{number, verdictOf, orTen}
 
 -- refusals 1 to 7 by the file, then 10 where fewer cells are lent than are needed; 0 for none
 unfoldable pub stageRefusal : List ℕ → ℕ → ℕ → ℕ
-stageRefusal s need lent = cond (eqb (number (verdictOf s)) 0) (cond (ltb lent need) 10 0) (number (verdictOf s))
+stageRefusal s need lent = orTen (number (verdictOf s)) (ltb lent need)
 
 -- "1 to 10 .. change no buffer"; else the needed cells hold what is asked for, whatever they held before, and those after them are as they were
 pub record StagePut (s : List ℕ) (need : ℕ) (Holds : Part → List ℕ → Type 0) (mem mem′ : List ℕ) (r : ℕ) : Type 0 where

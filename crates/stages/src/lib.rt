@@ -13,7 +13,7 @@ use segments::shared::shared_segments;
 pub fn put_segments(file: &[u8], mem: &mut [u32]) -> u32
     ensures { λ r. ⌜ StagePut (now (file .entry)) (8 * vertexCount (now (file .entry))) SharedSegments (now (mem .entry)) (now (mem .exit)) r ⌝ }
 {
-    let refusal = part::verdict::judge(file).refusal();
+    let refusal = part_rules::verdict::judge(file).refusal();
     if refusal != 0 {
         return refusal;
     }
@@ -30,7 +30,7 @@ pub fn put_segments(file: &[u8], mem: &mut [u32]) -> u32
 pub fn put_bodies(file: &[u8], mem: &mut [u32]) -> u32
     ensures { λ r. ⌜ StagePut (now (file .entry)) (polygonCount (now (file .entry)) + 6 * vertexCount (now (file .entry))) Bodies (now (mem .entry)) (now (mem .exit)) r ⌝ }
 {
-    let refusal = part::verdict::judge(file).refusal();
+    let refusal = part_rules::verdict::judge(file).refusal();
     if refusal != 0 {
         return refusal;
     }

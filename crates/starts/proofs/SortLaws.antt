@@ -6,11 +6,11 @@ use Prim.Native.Nat.{ℕ, _+_, _*_, _-_, _≤_, _<_}
 use native.Mathlib.Omega.{arith}
 use lib.Dec.{eqb}
 use lib.ListN.{length, getD, take}
-use lib.Seq.{ext-getD, getD-take, getD-drop, length-take-le}
+use lib.Seq.{ext-getD, getD-take, length-take-le}
 use lib.Ieee.{Float, isNan}
-use borrow.Rule.Slice.PartMut.{putMid, drop-put}
+use borrow.Rule.Slice.PartMut.{putMid}
 use Rattle.ranges.specs.Region.{part}
-use Rattle.ranges.proofs.Regions.{part-length, put-length, part-place, put-before, put-inside}
+use Rattle.ranges.proofs.Regions.{part-length, put-length, part-place, put-before, put-inside, put-after}
 use Rattle.part.specs.Part.{Part}
 use Rattle.sorting.specs.Sorted.{keyOf, Numbered, NoNan, SortedBy, inOrder}
 use Rattle.sorting.proofs.InOrder.{sorted-is}
@@ -19,16 +19,6 @@ use Rattle.starts.specs.Starts.{facePolygons, fallingTo, orderedPolygons
 use Rattle.starts.specs.Kept.{passing, keptAs, NumbersFrom, KeptFalling, AreaNumbers, Room, Gathered, Ordered}
 use Rattle.starts.proofs.PassingLaws.{passing-each, passing-same}
 use Rattle.starts.proofs.OrderLaws.{isOf, polygons-are, face-each, falling-at, in-order-keys}
-
--- a place after the part that was put
-put-after : {X : Type 0} (a e : ℕ) (s x : List X) (d : X) → a ≤ e → e ≤ length s → length x ≡ e - a → (i : ℕ) → e ≤ i
-    → getD (putMid a (e - a) s x) i d ≡ getD s i d
-put-after {X} a e s x d g h l i r =
-    let place : i ≡ e + (i - e) = omega (arith, r) in
-    let new = putMid a (e - a) s x in
-    ap (λ (k : ℕ). getD new k d) place ∙ sym (getD-drop e new (i - e) d)
-    ∙ ap (λ (z : List X). getD z (i - e) d) (drop-put a e s x g h l)
-    ∙ getD-drop e s (i - e) d ∙ ap (λ (k : ℕ). getD s k d) (sym place)
 
 module _ (keys : List Float) (old mid : List ℕ) (faces order p f n : ℕ) (room : Room old faces order p) (inside : p ≤ length keys)
     (g : Gathered old mid faces order f p n) where

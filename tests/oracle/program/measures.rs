@@ -44,4 +44,13 @@ impl Measures<'_> {
     pub fn hit(&self, origin: Vec3, dir: Vec3) -> Option<Hit> {
         self.0.bvh.raycast(self.0.body, origin, dir)
     }
+
+    pub fn is_open(&self, p: Vec3, dir: Vec3) -> bool {
+        self.0.open_towards(p, dir)
+    }
+
+    /// What `sheet_metal` takes for the thickness at first.
+    pub fn rough(&self) -> f64 {
+        dfm::weighted_median(self.readings().iter().map(|s| (s.thickness, s.area)).collect())
+    }
 }

@@ -1,7 +1,7 @@
 -- `body::put_reals` meets its contract.
 use borrow.Author.Needs.{needs}
 use mathlib.Core.Path.{_≡_, sym, ap, _∙_, subst}
-use Prim.Native.Nat.{ℕ, _+_, _*_, _-_, _≤_, _<_}
+use Prim.Native.Nat.{ℕ, _+_, _*_, _-_, _<_}
 use native.Mathlib.Omega.{arith}
 use native.Mathlib.Nat.{zero-add}
 use mathlib.Core.List.{List}
@@ -12,11 +12,11 @@ use denote.Ref.{now}
 use Rattle.ranges.specs.Region.{part}
 use Rattle.ranges.proofs.Regions.{part-length, put-length, part-put, part-place}
 use Rattle.part.specs.Part.{partOf}
-use Rattle.part.proofs.PartLaws.{part-vertices, part-polygons}
+use Rattle.part.proofs.PartLaws.{part-polygons}
 use Rattle.part.specs.Layout.{polygonCount}
 use Rattle.bodies.specs.Body.{here}
-use Rattle.bodies.specs.Volume.{Volumes}
-use Rattle.bodies.proofs.VolumeLaws.{volumes-same}
+use Rattle.volumes.specs.Volume.{Volumes}
+use Rattle.volumes.proofs.VolumeLaws.{volumes-same}
 use Rattle.solid.specs.Kept.{KeptAreas, KeptPlanes}
 use Rattle.solid.proofs.BodyLaws.{checked-readable}
 use Rattle.body.proofs.RealsLaws.{reals-put}

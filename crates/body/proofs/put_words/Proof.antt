@@ -1,6 +1,6 @@
 -- `body::put_words` meets its contract.
 use borrow.Author.Needs.{needs}
-use mathlib.Core.Path.{_≡_, sym, _∙_}
+use mathlib.Core.Path.{sym, _∙_}
 use native.Mathlib.Omega.{arith}
 use Rattle.part.proofs.PartLaws.{part-vertices, part-polygons}
 use Rattle.solid.proofs.BodyLaws.{checked-readable}

@@ -6,7 +6,8 @@ use lib.ListN.{length}
 use denote.Ref.{now}
 use Rattle.solid.specs.Faces.{Checked}
 use Rattle.solid.proofs.BodyLaws.{readable-long, checked-readable}
-use Rattle.measures.proofs.MeasuresLaws.{put-checked, put-room, few-readings, samples-refused, samples-put}
+use Rattle.body.proofs.AnswerLaws.{put-checked, put-room}
+use Rattle.measures.proofs.MeasuresLaws.{few-readings, samples-refused, samples-put}
 use Rattle.measures.proofs.put_samples.Statement.{statement}
 use Rattle.measures.proofs.put_samples.Tie as tie
 

@@ -8,8 +8,8 @@ use lib.ListN.{length, take}
 use lib.Seq.{length-take-le}
 use denote.Ref.{now}
 use Rattle.part.specs.Layout.{vertexCount}
-use Rattle.part.specs.Verdict.{Readable}
-use Rattle.part.proofs.ReadableLaws.{readable-counts}
+use Rattle.part_rules.specs.Verdict.{Readable}
+use Rattle.part_rules.proofs.ReadableLaws.{readable-counts}
 use Rattle.solid.proofs.BodyLaws.{readable-long, is-readable}
 use Rattle.segments.specs.Sides.{SharedSegments}
 use Rattle.stages.proofs.StageLaws.{stage-refused, stage-short, stage-put}

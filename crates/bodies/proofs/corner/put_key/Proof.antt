@@ -3,7 +3,7 @@ use native.Mathlib.Omega.{arith}
 use lib.ListN.{length-set}
 use borrow.Author.Needs.{needs}
 use Rattle.math.specs.Size.{VecWithin}
-use Rattle.part.proofs.ReadableLaws.{readable-vertex-room}
+use Rattle.part_rules.proofs.ReadableLaws.{readable-vertex-room}
 use Rattle.bodies.proofs.CornerLaws.{read-within, key-put}
 use Rattle.bodies.proofs.corner.put_key.Statement.{statement}
 use Rattle.bodies.proofs.corner.put_key.Tie as tie

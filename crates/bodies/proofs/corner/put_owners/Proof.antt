@@ -7,9 +7,9 @@ use lib.ListN.{length}
 use borrow.Rule.Slice.PartMut.{same-len-mid}
 use Rattle.part.specs.Layout.{vertexCount, polygonCount}
 use Rattle.part.specs.Part.{partOf}
-use Rattle.part.specs.Rules.{runStart}
-use Rattle.part.proofs.PolygonLaws.{start-none}
-use Rattle.part.proofs.ReadableLaws.{readable-length, readable-counts}
+use Rattle.part_rules.specs.Rules.{runStart}
+use Rattle.part_rules.proofs.PolygonLaws.{start-none}
+use Rattle.part_rules.proofs.ReadableLaws.{readable-length, readable-counts}
 use Rattle.bodies.specs.Corner.{Owned}
 use Rattle.bodies.proofs.CornerLaws.{run-end, owned-none, owned-more, owned-all}
 use Rattle.bodies.proofs.corner.put_owners.Statement.{statement}

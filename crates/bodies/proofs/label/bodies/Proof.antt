@@ -4,7 +4,7 @@ use native.Mathlib.Omega.{arith}
 use mathlib.Core.Path.{_∙_, sym}
 use lib.ListN.{length}
 use Rattle.part.specs.Part.{partOf}
-use Rattle.part.proofs.ReadableLaws.{readable-length, readable-counts}
+use Rattle.part_rules.proofs.ReadableLaws.{readable-length, readable-counts}
 use Rattle.ranges.proofs.Regions.{part-length}
 use Rattle.bodies.proofs.CornerLaws.{memory-put, bodies-are}
 use Rattle.bodies.proofs.label.bodies.Statement.{statement}

@@ -1,6 +1,6 @@
 -- `exports::parts::gablemadder_part_verdict` meets its contract.
 use mathlib.Core.Path.{ap, _∙_}
-use Rattle.part.specs.Verdict.{number}
+use Rattle.part_rules.specs.Verdict.{number}
 use borrow.Author.Needs.{needs}
 use Rattle.exports.proofs.parts.gablemadder_part_verdict.Statement.{statement}
 use Rattle.exports.proofs.parts.gablemadder_part_verdict.Tie as tie

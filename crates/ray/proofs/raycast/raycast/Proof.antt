@@ -9,8 +9,8 @@ use denote.Ref.{now}
 use Rattle.ranges.specs.Below.{allBelow}
 use Rattle.ranges.proofs.Below.{all-none}
 use Rattle.part.specs.Part.{partOf}
-use Rattle.part.specs.Verdict.{Readable}
-use Rattle.solid.specs.Polygon.{cornerAt}
+use Rattle.part_rules.specs.Verdict.{Readable}
+use Rattle.polygons.specs.Polygon.{cornerAt}
 use Rattle.solid.specs.Faces.{polygonPlane}
 use Rattle.solid.proofs.BodyLaws.{readable-long, EntryRoom, entry-room, polygons-are, checked-readable}
 use Rattle.ray.specs.Corners.{Corners}

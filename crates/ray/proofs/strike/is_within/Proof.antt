@@ -1,7 +1,7 @@
 -- `ray::strike::is_within` meets its contract.
 use borrow.Author.Needs.{needs}
 use native.Mathlib.Omega.{arith}
-use Rattle.solid.specs.Polygon.{cornerAt}
+use Rattle.polygons.specs.Polygon.{cornerAt}
 use Rattle.ray.specs.Strike.{isWithin}
 use Rattle.ray.proofs.strike.is_within.Statement.{statement}
 use Rattle.ray.proofs.strike.is_within.Tie as tie

@@ -5,7 +5,7 @@ use Prim.Native.Nat.{_-_, _≤_}
 use native.Mathlib.Omega.{arith}
 use lib.ListN.{length}
 use Rattle.part.specs.Part.{partOf}
-use Rattle.part.specs.Rules.{runStart}
+use Rattle.part_rules.specs.Rules.{runStart}
 use Rattle.holes.specs.Cells.{directionsIn}
 use Rattle.rounds.specs.Round.{directionsTo}
 use Rattle.rounds.proofs.BoreLaws.{starts-all, directions-none, directions-more, directions-all}

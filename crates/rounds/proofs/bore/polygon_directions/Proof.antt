@@ -3,11 +3,11 @@ use borrow.Author.Needs.{needs}
 use mathlib.Core.Path.{refl}
 use native.Mathlib.Omega.{arith}
 use denote.Ref.{now}
-use Rattle.part.proofs.ReadableLaws.{readable-counts}
+use Rattle.part_rules.proofs.ReadableLaws.{readable-counts}
 use Rattle.solid.proofs.BodyLaws.{EntryRoom, entry-room}
 use Rattle.holes.specs.Cells.{directionsIn}
 use Rattle.rounds.specs.Round.{directionsWith}
-use Rattle.rounds.proofs.ChoiceLaws.{other-face, this-face}
+use Rattle.cylinders.proofs.ChoiceLaws.{other-face, this-face}
 use Rattle.rounds.proofs.BoreLaws.{RunFits, run-fits, start-grows, run-directions}
 use Rattle.rounds.proofs.bore.polygon_directions.Statement.{statement}
 use Rattle.rounds.proofs.bore.polygon_directions.Tie as tie

@@ -7,10 +7,10 @@ use native.Mathlib.Omega.{arith}
 use lib.ListN.{length, length-set}
 use denote.Ref.{now}
 use Rattle.part.specs.Layout.{vertexCount}
-use Rattle.part.proofs.ReadableLaws.{readable-counts, readable-vertex-room}
-use Rattle.solid.specs.Polygon.{cornerAt}
+use Rattle.part_rules.proofs.ReadableLaws.{readable-counts, readable-vertex-room}
+use Rattle.polygons.specs.Polygon.{cornerAt}
 use Rattle.holes.specs.Cells.{Packable, directionsIn}
-use Rattle.rounds.specs.Frame.{runDirections}
+use Rattle.cylinders.specs.Frame.{runDirections}
 use Rattle.rounds.proofs.BoreLaws.{run-none, run-more, run-all, corner-packable}
 use Rattle.rounds.proofs.bore.run_directions.Statement.{statement}
 use Rattle.rounds.proofs.bore.run_directions.Tie as tie

@@ -2,9 +2,9 @@
 use borrow.Author.Needs.{needs}
 use mathlib.Core.Path.{ap, _∙_}
 use denote.Ref.{now}
-use Rattle.rounds.specs.declared.measure.Measure.{Measure}
-use Rattle.rounds.specs.Frame.{measureOf}
-use Rattle.rounds.specs.Kept.{putMeasure}
+use Rattle.cylinders.specs.declared.measure.Measure.{Measure}
+use Rattle.cylinders.specs.Frame.{measureOf}
+use Rattle.cylinders.specs.Measure.{putMeasure}
 use Rattle.rounds.proofs.round.put_extent.Statement.{statement}
 use Rattle.rounds.proofs.round.put_extent.Tie as tie
 

@@ -6,7 +6,7 @@ use native.Mathlib.Omega.{arith}
 use denote.Ref.{now}
 use Rattle.part.specs.Part.{partOf}
 use Rattle.part.proofs.PartLaws.{part-polygons}
-use Rattle.rounds.specs.Frame.{Central}
+use Rattle.cylinders.specs.Frame.{Central}
 use Rattle.rounds.proofs.FrameLaws.{face-central}
 use Rattle.rounds.proofs.SurfaceLaws.{round-is, frame-is, round-none}
 use Rattle.solid.proofs.CountLaws.{few-faces}

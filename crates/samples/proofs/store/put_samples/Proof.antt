@@ -6,8 +6,7 @@ use lib.Ieee.{nan}
 use denote.Ref.{now}
 use Rattle.solid.proofs.BodyLaws.{checked-readable}
 use Rattle.samples.proofs.StoredLaws.{outside-none}
-use Rattle.samples.proofs.ScratchLaws.{Standing, faces-room, faces, areas-room, total-is, ready, words-still, reals-still}
-use Rattle.samples.proofs.ScratchLaws.{none-count, none-readings, all-count, all-readings, all-reals}
+use Rattle.samples.proofs.ScratchLaws.{Standing, faces-room, faces, areas-room, total-is, ready, words-still, reals-still, none-count, none-readings, all-count, all-readings, all-reals}
 use Rattle.samples.proofs.store.put_samples.Statement.{statement}
 use Rattle.samples.proofs.store.put_samples.Tie as tie
 

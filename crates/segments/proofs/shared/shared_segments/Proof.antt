@@ -2,7 +2,7 @@
 use mathlib.Core.Path.{_∙_}
 use native.Mathlib.Omega.{arith}
 use borrow.Author.Needs.{needs}
-use Rattle.part.proofs.ReadableLaws.{readable-length}
+use Rattle.part_rules.proofs.ReadableLaws.{readable-length}
 use Rattle.segments.specs.Stages.{Lent}
 use Rattle.segments.proofs.PlaceLaws.{lent-of, lent-still}
 use Rattle.segments.proofs.SharedLaws.{placed-sides, all-shared}

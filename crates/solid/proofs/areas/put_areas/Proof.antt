@@ -6,7 +6,7 @@ use native.Mathlib.Omega.{arith}
 use lib.ListN.{length, length-set}
 use denote.Ref.{now}
 use Rattle.part.specs.Part.{partOf}
-use Rattle.part.specs.Verdict.{Readable}
+use Rattle.part_rules.specs.Verdict.{Readable}
 use Rattle.solid.specs.Kept.{KeptAreas}
 use Rattle.solid.proofs.BodyLaws.{readable-long, EntryRoom, entry-room, RunRoom, run-room, run-area, checked-readable}
 use Rattle.solid.proofs.KeptLaws.{areas-none, areas-more, areas-all}

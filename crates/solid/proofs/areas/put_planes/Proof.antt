@@ -6,7 +6,7 @@ use native.Mathlib.Omega.{arith}
 use lib.ListN.{length}
 use denote.Ref.{now}
 use Rattle.part.specs.Part.{partOf}
-use Rattle.part.specs.Verdict.{Readable}
+use Rattle.part_rules.specs.Verdict.{Readable}
 use Rattle.solid.specs.Kept.{KeptPlanes}
 use Rattle.solid.proofs.BodyLaws.{readable-long, EntryRoom, entry-room, RunRoom, run-room, run-plane, checked-readable}
 use Rattle.solid.proofs.KeptLaws.{planes-none, planes-more, planes-all}

@@ -6,7 +6,7 @@ use native.Mathlib.Omega.{arith}
 use denote.Ref.{now}
 use Rattle.part.specs.Part.{partOf}
 use Rattle.part.proofs.PartLaws.{part-polygons}
-use Rattle.part.proofs.ReadableLaws.{readable-counts}
+use Rattle.part_rules.proofs.ReadableLaws.{readable-counts}
 use Rattle.solid.specs.Faces.{faceCount}
 use Rattle.solid.proofs.FaceLaws.{count-start}
 use Rattle.solid.proofs.CountLaws.{count-next, faces-le, count-all}

@@ -3,7 +3,7 @@ use borrow.Author.Needs.{needs}
 use Prim.Native.Nat.{_+_, _<_}
 use lib.ListN.{getD}
 use denote.Ref.{now}
-use Rattle.part.proofs.ReadableLaws.{readable-counts}
+use Rattle.part_rules.proofs.ReadableLaws.{readable-counts}
 use Rattle.solid.proofs.FirstLaws.{from-early, from-found}
 use Rattle.part.specs.Layout.{polygonCount}
 use Rattle.solid.proofs.faces.face_number.Statement.{statement}

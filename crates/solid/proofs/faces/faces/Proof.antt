@@ -7,7 +7,7 @@ use lib.ListN.{length, length-set}
 use denote.Ref.{now}
 use Rattle.part.specs.Layout.{polygonCount}
 use Rattle.part.specs.Part.{partOf}
-use Rattle.part.proofs.ReadableLaws.{readable-counts}
+use Rattle.part_rules.proofs.ReadableLaws.{readable-counts}
 use Rattle.solid.specs.Kept.{from, Firsts, FaceNumbers}
 use Rattle.solid.proofs.BodyLaws.{readable-long, polygons-are, checked-readable, checked-number, checked-firsts}
 use Rattle.solid.proofs.FirstLaws.{firsts-none, numbers-none, faces-turn, faces-done}

@@ -5,7 +5,7 @@ use lib.ListN.{getD}
 use denote.Ref.{now}
 use native.Mathlib.Omega.{arith}
 use Rattle.part.specs.Part.{partOf}
-use Rattle.part.proofs.ReadableLaws.{readable-counts}
+use Rattle.part_rules.proofs.ReadableLaws.{readable-counts}
 use Rattle.solid.specs.Kept.{from}
 use Rattle.solid.proofs.FirstLaws.{NoneSame, same-none, firsts-missed, from-early, from-found, from-more}
 use Rattle.part.specs.Layout.{polygonCount}

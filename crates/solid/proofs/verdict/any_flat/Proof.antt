@@ -5,10 +5,9 @@ use Prim.Native.Nat.{_-_, _≤_}
 use native.Mathlib.Omega.{arith}
 use denote.Ref.{now}
 use Rattle.part.specs.Part.{partOf}
-use Rattle.part.specs.Verdict.{Readable}
+use Rattle.part_rules.specs.Verdict.{Readable}
 use Rattle.solid.specs.Faces.{polygonFlat}
-use Rattle.solid.proofs.BodyLaws.{readable-long, EntryRoom, entry-room, RunRoom, run-room, run-flat, polygons-are}
-use Rattle.solid.proofs.BodyLaws.{NoneFlat, flat-none, flat-more, flat-found, flat-all}
+use Rattle.solid.proofs.BodyLaws.{readable-long, EntryRoom, entry-room, RunRoom, run-room, run-flat, polygons-are, NoneFlat, flat-none, flat-more, flat-found, flat-all}
 use Rattle.solid.proofs.verdict.any_flat.Statement.{statement}
 use Rattle.solid.proofs.verdict.any_flat.Tie as tie
 

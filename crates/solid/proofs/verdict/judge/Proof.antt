@@ -2,7 +2,7 @@
 use borrow.Author.Needs.{needs}
 use Rattle.solid.proofs.BodyLaws.{is-readable, body-refused, body-flat, body-many, body-accepted}
 use denote.Ref.{now}
-use Rattle.part.specs.Verdict.{Readable}
+use Rattle.part_rules.specs.Verdict.{Readable}
 use Rattle.solid.proofs.verdict.judge.Statement.{statement}
 use Rattle.solid.proofs.verdict.judge.Tie as tie
 

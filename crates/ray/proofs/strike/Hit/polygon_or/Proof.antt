@@ -1,7 +1,7 @@
 -- `ray::strike::Hit::polygon_or` meets its contract.
 use borrow.Author.Needs.{needs}
 use mathlib.Core.Path.{ap, sym}
-use Rattle.ray.specs.Cast.{polygonOr}
+use Rattle.ray.specs.Nearest.{polygonOr}
 use Rattle.ray.proofs.strike.Hit.polygon_or.Statement.{statement}
 use Rattle.ray.proofs.strike.Hit.polygon_or.Tie as tie
 

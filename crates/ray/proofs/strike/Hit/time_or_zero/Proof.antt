@@ -1,7 +1,7 @@
 -- `ray::strike::Hit::time_or_zero` meets its contract.
 use borrow.Author.Needs.{needs}
 use mathlib.Core.Path.{ap, sym}
-use Rattle.ray.specs.Cast.{timeOrZero}
+use Rattle.ray.specs.Nearest.{timeOrZero}
 use Rattle.ray.proofs.strike.Hit.time_or_zero.Statement.{statement}
 use Rattle.ray.proofs.strike.Hit.time_or_zero.Tie as tie
 

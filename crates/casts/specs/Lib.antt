@@ -1,0 +1,4 @@
+-- Many rays through a part file.
+pub mod Rays
+pub mod Cast
+pub mod Open

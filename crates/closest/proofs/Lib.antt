@@ -1,0 +1,2 @@
+-- SegmentLaws: the steps of the functions here.
+pub mod SegmentLaws

@@ -1,0 +1,2 @@
+-- The distance of a point from a segment.
+pub mod Segment

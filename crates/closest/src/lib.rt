@@ -1,0 +1,2 @@
+// How far a point is from a segment.
+pub mod segment;

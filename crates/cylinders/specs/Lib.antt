@@ -1,0 +1,4 @@
+-- A cylindrical face about its axis.
+pub mod Frame
+pub mod Polygons
+pub mod Measure

@@ -1,0 +1,19 @@
+-- `job::rules::flagged_word` meets its contract.
+use borrow.Author.Needs.{needs}
+use Rattle.job_rules.specs.Rules.{flaggedWord}
+use Rattle.job_rules.proofs.rules.flagged_word.Statement.{statement}
+use Rattle.job_rules.proofs.rules.flagged_word.Tie as tie
+
+u32-at-requires : tie.Need-u32-at-requires
+u32-at-requires c κs = search needs
+
+returns : tie.Need-returns
+unfolding flaggedWord
+returns c = rw (c .if1 .taken, c .before .u32-at .ensures)
+
+returns-2 : tie.Need-returns-2
+unfolding flaggedWord
+returns-2 c = rw (c .if1 .left, c .before .u32-at .ensures)
+
+pub flagged-word-spec : {M : Type 1} → statement M
+flagged-word-spec = tie.close (tie.spec u32-at-requires returns returns-2)

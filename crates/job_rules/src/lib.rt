@@ -1,0 +1,2 @@
+// When a job is within its rules: refusal 5.
+pub mod rules;

@@ -1,0 +1,13 @@
+-- `lists::round_list::flag` meets its contract.
+use Rattle.lists.proofs.RoundCells.{flag-set, flag-clear}
+use Rattle.lists.proofs.round_list.flag.Statement.{statement}
+use Rattle.lists.proofs.round_list.flag.Tie as tie
+
+returns : tie.Need-returns
+returns c = flag-set _ (c .if1 .taken)
+
+returns-2 : tie.Need-returns-2
+returns-2 c = flag-clear _ (c .if1 .left)
+
+pub flag-spec : {M : Type 1} → statement M
+flag-spec = tie.close (tie.spec returns returns-2)

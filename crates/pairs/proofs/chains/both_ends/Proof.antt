@@ -1,0 +1,31 @@
+-- `segments::chains::both_ends` meets its contract.
+use mathlib.Core.Bool.{true, false}
+use mathlib.Core.Path.{_≡_, sym, _∙_}
+use borrow.Author.Needs.{needs}
+use Rattle.pairs.specs.Columns.{sameCells}
+use Rattle.pairs.specs.Pair.{bothEnds}
+use Rattle.pairs.proofs.chains.both_ends.Statement.{statement}
+use Rattle.pairs.proofs.chains.both_ends.Tie as tie
+
+same-end-requires : tie.Need-same-end-requires
+same-end-requires c κs = search needs
+
+same-end-requires-2 : tie.Need-same-end-requires-2
+same-end-requires-2 c κs = search needs
+
+returns : tie.Need-returns
+unfolding bothEnds
+returns c =
+    let start = c .before .before .before .before in
+    let e : sameCells (start .args .mem .now) (start .args .a) (start .args .c) ≡ true = sym (c .before .before .same-end .ensures) ∙ c .before .if1 .taken in
+    rw e (c .same-end2 .ensures)
+
+returns-2 : tie.Need-returns-2
+unfolding bothEnds
+returns-2 c =
+    let start = c .before .before .before in
+    let e : sameCells (start .args .mem .now) (start .args .a) (start .args .c) ≡ false = sym (c .before .same-end .ensures) ∙ c .if1 .left in
+    rw e
+
+pub both-ends-spec : {M : Type 1} → statement M
+both-ends-spec = tie.close (tie.spec same-end-requires same-end-requires-2 returns returns-2)

@@ -1,0 +1,2 @@
+-- CornerLaws: the steps from corner to corner.
+pub mod CornerLaws

@@ -1,0 +1,3 @@
+-- Planes, areas and centroids of polygons.
+pub mod Polygon
+pub mod Plane

@@ -1,0 +1,2 @@
+// solid.rs's polygon: its plane, its area, its centroid.
+pub mod polygon;

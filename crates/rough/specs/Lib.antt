@@ -1,0 +1,2 @@
+-- The weighted median of the readings of a part.
+pub mod Rough

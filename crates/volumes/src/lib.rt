@@ -1,0 +1,2 @@
+// The volumes of the bodies of a part.
+pub mod volume;
