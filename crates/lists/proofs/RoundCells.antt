@@ -8,9 +8,9 @@ use lib.Dec.{eqb}
 use lib.ListN.{length, getD, set, length-set}
 use lib.Seq.{getD-set-same, getD-set-other}
 use lib.Ieee.{Float, nan}
+use Rattle.ranges.proofs.Stores.{stores, stores-length, stores-below, stores-above, stores-at}
 use Rattle.rounds.specs.declared.round.Round.{Round}
 use Rattle.lists.specs.RoundList.{roundAt, flagOf, putFaces, putNumbers}
-use Rattle.lists.proofs.StoreLaws.{stores, stores-length, stores-below, stores-above, stores-at}
 
 -- ---- a flag
 pub flag-set : (b : Bool) → b ≡ true → 1 ≡ flagOf b

@@ -12,6 +12,7 @@ use lib.Seq.{getD-set-same, getD-set-other}
 use lib.Ieee.{Float, nan}
 use borrow.Author.Tests.{ltb-false}
 use Rattle.float.proofs.Tests.{or-false-left, or-false-right, lt-or-ge}
+use Rattle.ranges.proofs.Stores.{stores, stores-length, stores-below, stores-above, stores-at}
 use Rattle.part.specs.Layout.{polygonCount}
 use Rattle.part.specs.Part.{Part, partOf}
 use Rattle.part.proofs.PartLaws.{part-polygons}
@@ -25,7 +26,6 @@ use Rattle.samples.specs.Stored.{reading}
 use Rattle.samples.proofs.ReadingLaws.{readings-inside}
 use Rattle.measures.specs.Measures.{SamplesAnswer}
 use Rattle.lists.specs.SampleList.{sampleAt, putFaces, putNumbers, SampleList, samplesShort, samplesRefusal, SamplesListed}
-use Rattle.lists.proofs.StoreLaws.{stores, stores-length, stores-below, stores-above, stores-at}
 
 -- ---- a reading in its cells
 module _ (faces : List ℕ) (k : ℕ) (x : Sample) where

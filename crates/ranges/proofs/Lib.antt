@@ -1,4 +1,4 @@
--- The laws on the numbers below n, and on parts of a slice.
+-- The laws on the numbers below n, on parts of a slice, and on its cells.
 -- Below
 --   all-none, all-more      no number, and one more
 --   all-each                a test that holds of all holds of each
@@ -14,7 +14,10 @@
 --   part-length, put-length the lengths
 --   part-put                the part that was lent holds what was put there
 --   part-before, part-after the parts before it and after it are as they were
---   put-before, put-inside, part-place      single places
+--   put-before, put-inside, put-after, part-place      single places
+-- Stores: the cells of a list after a run of stores, one cell after another
+--   stores-length, stores-below, stores-above, stores-at
 pub mod Below
 pub mod Count
 pub mod Regions
+pub mod Stores
