@@ -6,9 +6,9 @@ use Prim.Native.Nat.{ℕ}
 use native.Mathlib.Omega.{arith}
 use lib.ListN.{length}
 use lib.Ieee.{Float}
-use Rattle.write.specs.declared.decimal.Answer.{Answer}
-use Rattle.write.specs.declared.decimal.Answer.the-variants.{Written, Refused}
-use Rattle.write.specs.Decimal.{text, taken, Writes}
+use Rattle.num_text.specs.declared.decimal.Answer.{Answer}
+use Rattle.num_text.specs.declared.decimal.Answer.the-variants.{Written, Refused}
+use Rattle.num_text.specs.Decimal.{text, taken, Writes}
 use Rattle.exports.specs.Decimal.{Returns}
 
 module _ (x : Float) (p : ℕ) {before after : List ℕ} {r : Answer} (old : ℕ) (w : Writes x p before after r) where

@@ -1,3 +1,2 @@
 -- Laws behind the functions that are more than a call.
 pub mod Decimal
-pub mod Each

@@ -5,7 +5,7 @@ use mathlib.Core.Bool.{cond}
 use Prim.Native.Nat.{ℕ}
 use lib.ListN.{length, drop}
 use lib.Ieee.{Float}
-use Rattle.write.specs.Decimal.{text, taken}
+use Rattle.num_text.specs.Decimal.{text, taken}
 
 -- The refusal's number, 0 for none; the length that was lent as a number, and the buffer: set where the call is taken, and else unchanged.
 pub record Returns (x : Float) (p : ℕ) (before after : List ℕ) (old new r : ℕ) : Type 0 where

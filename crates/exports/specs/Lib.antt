@@ -1,3 +1,2 @@
 -- What the functions mean that are more than a call of another crate's.
 pub mod Decimal
-pub mod Each

@@ -1,8 +1,3 @@
-// Each function that Rust or C may call. None has a condition: whatever is passed, the contract says what comes back.
-mod listed;
-mod parts;
-mod rays;
-mod reals;
+// What Rust and C call: the product. No function has a condition: whatever is passed, the contract says what comes back.
 mod roots;
-mod scratch;
 mod texts;

@@ -1,9 +1,8 @@
 -- The vectors of math.rs over IEEE 754's binary64, each operation in the Rust's order. Definitions only.
 use mathlib.Core.Bool.{cond}
 use lib.Ieee.{Float, binary64, add, sub, mul, div, neg, lt, ofBits}
-use Rattle.root.specs.Root.{root}
-use Rattle.norm.specs.Length.{e-300}
-use Rattle.real.specs.Select.{minOf, maxOf, absOf}
+use Rattle.num_norm.specs.Length.{squared, length, normalized}
+use Rattle.num_real.specs.Select.{minOf, maxOf, absOf}
 use Rattle.math.specs.declared.Vec3.{Vec3}
 
 abbrev pub vec : Float → Float → Float → Vec3
@@ -38,7 +37,7 @@ minus a b = vec (sub binary64 (a .x) (b .x)) (sub binary64 (a .y) (b .y)) (sub b
 unfoldable pub times : Vec3 → Float → Vec3
 times a s = vec (mul binary64 (a .x) s) (mul binary64 (a .y) s) (mul binary64 (a .z) s)
 
--- "a division divides where math.rs divides"
+-- "Whether a division divides or multiplies by an inverse is as math.rs has it": this one divides
 unfoldable pub over : Vec3 → Float → Vec3
 over a s = vec (div binary64 (a .x) s) (div binary64 (a .y) s) (div binary64 (a .z) s)
 
@@ -57,17 +56,17 @@ crossOf a b =
 
 -- ---- lengths
 unfoldable pub lengthSqOf : Vec3 → Float
-lengthSqOf a = dotOf a a
+lengthSqOf a = squared (a .x) (a .y) (a .z)
 
 unfoldable pub lengthOf : Vec3 → Float
-lengthOf a = root (lengthSqOf a)
+lengthOf a = length (a .x) (a .y) (a .z)
 
 unfoldable pub distanceOf : Vec3 → Vec3 → Float
 distanceOf a b = lengthOf (minus a b)
 
 -- "`normalized` returns a vector shorter than 1e-300 unchanged"
 unfoldable pub normalizedOf : Vec3 → Vec3
-normalizedOf a = cond (lt (lengthOf a) e-300) a (over a (lengthOf a))
+normalizedOf a = vec (normalized (a .x) (a .y) (a .z) (a .x)) (normalized (a .x) (a .y) (a .z) (a .y)) (normalized (a .x) (a .y) (a .z) (a .z))
 
 -- the f64 0.9
 abbrev pub nine-tenths : Float

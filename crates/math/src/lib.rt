@@ -1,6 +1,6 @@
 // Vectors of three f64, as math.rs has them.
 ghost use mathlib.Core.Path.{_≡_};
-ghost use Rattle.math.specs.Vector.{zeroVec, xVec, yVec, zVec, plus, minus, times, over, opposite, dotOf, crossOf, lengthSqOf, lengthOf, distanceOf, normalizedOf, perpendicularOf, lowOf, highOf};
+ghost use Rattle.math.specs.Vector.{plus, minus, times, over, opposite, dotOf, crossOf, lengthSqOf, lengthOf, distanceOf, normalizedOf, perpendicularOf, lowOf, highOf};
 
 pub struct Vec3 {
     pub x: f64,
@@ -113,7 +113,7 @@ impl Vec3 {
     pub fn length(self) -> f64
         ensures { λ r. ⌜ r ≡ lengthOf self ⌝ }
     {
-        root::sqrt(self.length_sq())
+        num_root::sqrt(self.length_sq())
     }
 
     pub fn distance(self, o: Vec3) -> f64
@@ -137,7 +137,7 @@ impl Vec3 {
     pub fn any_perpendicular(self) -> Vec3
         ensures { λ r. ⌜ r ≡ perpendicularOf self ⌝ }
     {
-        if real::select::abs(self.x) < 0.9 {
+        if num_real::select::abs(self.x) < 0.9 {
             return self.cross(Vec3::X).normalized();
         }
         self.cross(Vec3::Y).normalized()
@@ -148,9 +148,9 @@ impl Vec3 {
         ensures { λ r. ⌜ r ≡ lowOf self o ⌝ }
     {
         Vec3 {
-            x: real::select::min(self.x, o.x),
-            y: real::select::min(self.y, o.y),
-            z: real::select::min(self.z, o.z),
+            x: num_real::select::min(self.x, o.x),
+            y: num_real::select::min(self.y, o.y),
+            z: num_real::select::min(self.z, o.z),
         }
     }
 
@@ -159,9 +159,9 @@ impl Vec3 {
         ensures { λ r. ⌜ r ≡ highOf self o ⌝ }
     {
         Vec3 {
-            x: real::select::max(self.x, o.x),
-            y: real::select::max(self.y, o.y),
-            z: real::select::max(self.z, o.z),
+            x: num_real::select::max(self.x, o.x),
+            y: num_real::select::max(self.y, o.y),
+            z: num_real::select::max(self.z, o.z),
         }
     }
 }

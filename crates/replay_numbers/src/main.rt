@@ -28,22 +28,22 @@ fn pattern(digits: &[u8]) -> u64 {
 
 // x with so many places after a blank, or the refusal.
 fn put_places(out: &mut [u8], at: usize, x: f64, places: u32) -> usize {
-    let start = write::put::put_byte(out, at, b' ');
-    let end = write::decimal::put_decimal(out, start, x, places);
+    let start = num_text::put::put_byte(out, at, b' ');
+    let end = num_text::decimal::put_decimal(out, start, x, places);
     if start < end {
         return end;
     }
-    write::put::put_bytes(out, start, b"refused 13")
+    num_text::put::put_bytes(out, start, b"refused 13")
 }
 
 fn put_line(out: &mut [u8], b: u64) -> usize {
-    let x = real::bits::from_bits(b);
-    let a0 = write::number::put_hex(out, 0, root::sqrt_bits(b));
+    let x = num_real::bits::from_bits(b);
+    let a0 = num_text::number::put_hex(out, 0, num_root::sqrt_bits(b));
     let a1 = put_places(out, a0, x, 0);
     let a2 = put_places(out, a1, x, 1);
     let a3 = put_places(out, a2, x, 2);
     let a4 = put_places(out, a3, x, 3);
-    write::put::put_byte(out, a4, b'\n')
+    num_text::put::put_byte(out, a4, b'\n')
 }
 
 // Replays a line; false where there is none.

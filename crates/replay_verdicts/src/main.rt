@@ -13,7 +13,7 @@ fn put_zeros(out: &mut [u8], at: usize, count: u8) -> usize {
     let mut next = at;
     let mut left = count;
     while 0 < left {
-        next = write::put::put_byte(out, next, 0);
+        next = num_text::put::put_byte(out, next, 0);
         left -= 1;
     }
     next
@@ -27,7 +27,7 @@ fn put_packed(out: &mut [u8], at: usize, b: u8, after_zero: bool) -> usize {
     if b == 0 {
         return at;
     }
-    write::put::put_byte(out, at, b)
+    num_text::put::put_byte(out, at, b)
 }
 
 // The file that was packed, in the first bytes of `file`. Its length, which is more than that of `file` where it does not fit.
@@ -47,7 +47,7 @@ fn unpack(file: &mut [u8], packed: &[u8]) -> usize {
 // The number of the file in the first bytes of `room`.
 fn print_number(room: &[u8], length: usize) {
     if length <= room.len() {
-        let verdict = part_rules::verdict::judge(&room[..length]);
+        let verdict = file_ok::verdict::judge(&room[..length]);
         io::print_decimal(STDOUT_FILENO, verdict.refusal() as u64);
         io::write_all(STDOUT_FILENO, b"\n");
     } else {
@@ -74,7 +74,7 @@ fn replay_next(file: &mut [u8; LONGEST], packed: &mut [u8; LONGEST_PACKED]) -> b
     if io::read_full(STDIN_FILENO, &mut size) < 4 {
         return false;
     }
-    replay(file, packed, field::read::u32_at(&size, 0) as usize)
+    replay(file, packed, file_field::read::u32_at(&size, 0) as usize)
 }
 
 fn main() {

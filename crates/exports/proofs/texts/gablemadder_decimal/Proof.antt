@@ -4,27 +4,12 @@ use Rattle.exports.proofs.Decimal.{told-written, told-refused}
 use Rattle.exports.proofs.texts.gablemadder_decimal.Statement.{statement}
 use Rattle.exports.proofs.texts.gablemadder_decimal.Tie as tie
 
-decimal-requires : tie.Need-decimal-requires
-decimal-requires c κs = search needs
-
-enum-known-answer : tie.Need-enum-known-answer
-enum-known-answer c = search needs
-
-enum-told : tie.Need-enum-told
-enum-told c = search needs
-
-same-length : tie.Need-same-length
-same-length c = search needs
-
 returns : tie.Need-returns
 returns c = let d = c .before .before .before .before .before in told-written _ _ _ (d .decimal .ensures) (c .before .answer .given .1)
-
-same-length-2 : tie.Need-same-length-2
-same-length-2 c = search needs
 
 returns-2 : tie.Need-returns-2
 returns-2 c = let d = c .before .before .before .before in told-refused _ _ _ (d .decimal .ensures) (c .enum-told .given .1)
 
 pub gablemadder-decimal-spec : {M : Type 1} → statement M
 gablemadder-decimal-spec =
-    tie.close (tie.spec decimal-requires enum-known-answer enum-told same-length returns same-length-2 returns-2)
+    tie.close (tie.spec (λ c κs. search needs) (λ c. search needs) (λ c. search needs) (λ c. search needs) returns (λ c. search needs) returns-2)

@@ -7,24 +7,9 @@ use Rattle.math.proofs.VectorLaws.{perpendicular-by}
 use Rattle.math.proofs.Vec3.any_perpendicular.Statement.{statement}
 use Rattle.math.proofs.Vec3.any_perpendicular.Tie as tie
 
-abs-requires : tie.Need-abs-requires
-abs-requires c κs = search needs
-
-cross-requires : tie.Need-cross-requires
-cross-requires c κs = search needs
-
-normalized-requires : tie.Need-normalized-requires
-normalized-requires c κs = search needs
-
 returns : tie.Need-returns
 unfolding xVec
 returns c = perpendicular-by _ _ _ _ _ true (c .before .before .before .abs .ensures) (c .before .before .if1 .taken) refl (c .before .cross .ensures) (c .normalized .ensures)
-
-cross-requires-2 : tie.Need-cross-requires-2
-cross-requires-2 c κs = search needs
-
-normalized-requires-2 : tie.Need-normalized-requires-2
-normalized-requires-2 c κs = search needs
 
 returns-2 : tie.Need-returns-2
 unfolding yVec
@@ -34,10 +19,10 @@ pub any-perpendicular-spec : {M : Type 1} → statement M
 any-perpendicular-spec =
     tie.close
     (tie.spec
-    abs-requires
-    cross-requires
-    normalized-requires
+    (λ c κs. search needs)
+    (λ c κs. search needs)
+    (λ c κs. search needs)
     returns
-    cross-requires-2
-    normalized-requires-2
+    (λ c κs. search needs)
+    (λ c κs. search needs)
     returns-2)

@@ -1,4 +1,0 @@
--- A cylindrical face about its axis.
-pub mod Frame
-pub mod Polygons
-pub mod Measure

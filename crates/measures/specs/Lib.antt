@@ -1,2 +1,0 @@
--- The readings and the rounds of a part file in the lent scratch.
-pub mod Measures

@@ -1,0 +1,109 @@
+-- `probe_lists::rounds::put_round` meets its contract.
+use borrow.Author.Needs.{needs}
+use mathlib.Core.Path.{refl}
+use lib.ListN.{length-set}
+use Rattle.probe_lists.proofs.RoundLaws.{faces-row, numbers-row}
+use native.Mathlib.Omega.{arith}
+use Rattle.probe_lists.proofs.rounds.put_round.Statement.{statement}
+use Rattle.probe_lists.proofs.rounds.put_round.Tie as tie
+
+slice-write-faces-2 : tie.Need-slice-write-faces-2
+slice-write-faces-2 c = simp length-set (omega arith)
+
+slice-write-faces-3 : tie.Need-slice-write-faces-3
+slice-write-faces-3 c = simp length-set (omega arith)
+
+slice-write-numbers-2 : tie.Need-slice-write-numbers-2
+slice-write-numbers-2 c = simp length-set (omega arith)
+
+slice-write-numbers-3 : tie.Need-slice-write-numbers-3
+slice-write-numbers-3 c = simp length-set (omega arith)
+
+slice-write-numbers-4 : tie.Need-slice-write-numbers-4
+slice-write-numbers-4 c = simp length-set (omega arith)
+
+slice-write-numbers-5 : tie.Need-slice-write-numbers-5
+slice-write-numbers-5 c = simp length-set (omega arith)
+
+slice-write-numbers-6 : tie.Need-slice-write-numbers-6
+slice-write-numbers-6 c = simp length-set (omega arith)
+
+slice-write-numbers-7 : tie.Need-slice-write-numbers-7
+slice-write-numbers-7 c = simp length-set (omega arith)
+
+slice-write-numbers-8 : tie.Need-slice-write-numbers-8
+slice-write-numbers-8 c = simp length-set (omega arith)
+
+slice-write-numbers-9 : tie.Need-slice-write-numbers-9
+slice-write-numbers-9 c = simp length-set (omega arith)
+
+slice-write-numbers-10 : tie.Need-slice-write-numbers-10
+slice-write-numbers-10 c = simp length-set (omega arith)
+
+slice-write-numbers-11 : tie.Need-slice-write-numbers-11
+slice-write-numbers-11 c = simp length-set (omega arith)
+
+same-length : tie.Need-same-length
+same-length c = simp length-set refl
+
+same-length-2 : tie.Need-same-length-2
+same-length-2 c = simp length-set refl
+
+returns : tie.Need-returns
+returns c = (faces-row _ _ _ _ _ (c .before .before .before .before .flag .ensures) (c .before .before .before .flag2 .ensures) (c .before .before .before .before .before .before .before .before .pre .0), numbers-row _ _ _ (c .before .before .before .before .before .before .before .before .pre .1 .0))
+
+pub put-round-spec : {M : Type 1} → statement M
+put-round-spec =
+    tie.close
+    (tie.spec
+    (λ c. search needs)
+    (λ c. search needs)
+    (λ c. search needs)
+    (λ c. search needs)
+    (λ c. search needs)
+    (λ c κs. search needs)
+    (λ c. search needs)
+    (λ c. search needs)
+    (λ c. search needs)
+    slice-write-faces-2
+    (λ c κs. search needs)
+    (λ c. search needs)
+    (λ c. search needs)
+    (λ c. search needs)
+    slice-write-faces-3
+    (λ c. search needs)
+    (λ c. search needs)
+    (λ c. search needs)
+    (λ c. search needs)
+    (λ c. search needs)
+    slice-write-numbers-2
+    (λ c. search needs)
+    (λ c. search needs)
+    slice-write-numbers-3
+    (λ c. search needs)
+    (λ c. search needs)
+    slice-write-numbers-4
+    (λ c. search needs)
+    (λ c. search needs)
+    slice-write-numbers-5
+    (λ c. search needs)
+    (λ c. search needs)
+    slice-write-numbers-6
+    (λ c. search needs)
+    (λ c. search needs)
+    slice-write-numbers-7
+    (λ c. search needs)
+    (λ c. search needs)
+    slice-write-numbers-8
+    (λ c. search needs)
+    (λ c. search needs)
+    slice-write-numbers-9
+    (λ c. search needs)
+    (λ c. search needs)
+    slice-write-numbers-10
+    (λ c. search needs)
+    (λ c. search needs)
+    slice-write-numbers-11
+    same-length
+    same-length-2
+    returns)

@@ -1,0 +1,2 @@
+-- Laws behind the probe of many roots.
+pub mod Each

@@ -1,0 +1,2 @@
+-- What the probe of many roots means.
+pub mod Each

@@ -1,0 +1,83 @@
+// How far a face reaches along its axis.
+ghost use mathlib.Core.Path.{_≡_};
+ghost use Prim.Native.Nat.{_+_, _*_, _≤_, _<_};
+ghost use lib.ListN.{length};
+ghost use Rattle.file_part.specs.Layout.{vertexCount};
+ghost use Rattle.file_part.specs.Part.{partOf};
+ghost use Rattle.file_ok.specs.Verdict.{Readable};
+ghost use Rattle.solid_polygon.specs.Polygon.{cornerAt};
+ghost use Rattle.solid_faces.specs.Faces.{polygonCorner};
+ghost use Rattle.solid_faces.specs.Kept.{FaceNumbers};
+ghost use Rattle.round_frame.specs.Frame.{reach, runExtent};
+ghost use Rattle.round_frame.specs.Polygons.{extentTo};
+use crate::frame::Frame;
+use file_part::read::entry_at;
+use file_part::read::first_vertex;
+use file_part::read::polygon_count;
+use file_part::read::run_length;
+use file_part::read::vertex;
+use file_part::read::vertex_count;
+use num_real::select::max;
+use num_real::select::min;
+
+// The lowest and the highest height.
+pub struct Extent {
+    pub lo: f64,
+    pub hi: f64,
+}
+
+impl Extent {
+    // With one height more.
+    pub fn reach(self, h: f64) -> Extent
+        ensures { λ r. ⌜ r ≡ reach self h ⌝ }
+    {
+        Extent {
+            lo: min(self.lo, h),
+            hi: max(self.hi, h),
+        }
+    }
+}
+
+// With the corners of a polygon more.
+fn run_extent(file: &[u8], first: usize, count: usize, frame: Frame, extent: Extent) -> Extent
+    requires { ⌜ 24 * (first + count) ≤ length (now file) ⌝ }
+    ensures { λ r. ⌜ r ≡ runExtent frame (cornerAt (now (file .entry)) first) extent count ⌝ }
+{
+    let mut e = extent;
+    let mut k: usize = 0;
+    while k < count {
+        e = e.reach(frame.height(vertex(file, first + k)));
+        k += 1;
+    }
+    e
+}
+
+// With polygon q more, of a file with v vertices.
+fn polygon_extent(file: &[u8], v: usize, q: usize, frame: Frame, e: Extent) -> Extent
+    requires { ⌜ Readable (now file) ⌝ ∗ ⌜ v ≡ vertexCount (now file) ⌝ ∗ ⌜ q < partOf (now file) .polygons ⌝ }
+    ensures { λ r. ⌜ r ≡ runExtent frame (polygonCorner (partOf (now (file .entry))) q) e (partOf (now (file .entry)) .polygon q .count) ⌝ }
+{
+    let at = entry_at(v, q);
+    run_extent(file, first_vertex(file, at), run_length(file, at), frame, e)
+}
+
+// Over all polygons of face f.
+pub fn face_extent(file: &[u8], faces: &[u32], f: usize, frame: Frame) -> Extent
+    requires { ⌜ Readable (now file) ⌝ ∗ ⌜ FaceNumbers (partOf (now file)) (partOf (now file) .polygons) (now faces) ⌝ }
+    ensures { λ r. ⌜ r ≡ extentTo (partOf (now (file .entry))) f frame (partOf (now (file .entry)) .polygons) ⌝ }
+{
+    let p = polygon_count(file);
+    let v = vertex_count(file);
+    let mut e = Extent {
+        lo: 1.0 / 0.0,
+        hi: -1.0 / 0.0,
+    };
+    let mut q: usize = 0;
+    while q < p {
+        if faces[q] as usize == f {
+            e = polygon_extent(file, v, q, frame, e);
+        }
+        q += 1;
+    }
+    e
+}

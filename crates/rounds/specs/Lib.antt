@@ -1,3 +1,0 @@
--- The rounds of a part.
-pub mod Round
-pub mod Kept

@@ -1,3 +1,0 @@
--- Thickness readings, and how the lent scratch holds them.
-pub mod Samples
-pub mod Stored

@@ -1,0 +1,15 @@
+-- The laws on the regions of the scratch, and on the answer. Other crates cite these:
+-- RegionLaws
+--   only-regions                        the regions follow from the counts alone
+-- StandingLaws
+--   placed-polygons, placed-vertices    the counts of the part
+--   standing-kept                       the body still stands after changes past its regions
+-- WordsLaws
+--   face-at, first-at                   the face of a polygon, the first polygon of a face
+-- RefusalLaws
+--   put-checked, put-room               what a refusal of 0 says
+pub mod RegionLaws
+pub mod WordsLaws
+pub mod RealsLaws
+pub mod StandingLaws
+pub mod RefusalLaws

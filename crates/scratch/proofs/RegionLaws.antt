@@ -1,0 +1,91 @@
+-- A struct whose regions are laid out is the one of its counts.
+use mathlib.Core.Path.{_≡_}
+use Prim.Native.Nat.{_+_, _*_}
+use native.Mathlib.Omega.{arith}
+use Rattle.scratch.specs.declared.regions.Regions.{Regions}
+use Rattle.scratch.specs.Regions.{Laid, regionsOf}
+
+pub only-regions : (at : Regions) → Laid at → at ≡ regionsOf (at .polygons) (at .vertices)
+unfolding regionsOf
+only-regions at laid = rw (
+  is-sides,
+  is-work,
+  is-faces,
+  is-firsts,
+  is-readings,
+  is-hits,
+  is-order,
+  is-kinds,
+  is-spare,
+  is-words,
+  is-areas,
+  is-totals,
+  is-volumes,
+  is-falling,
+  is-thickness,
+  is-weights,
+  is-rounds,
+  is-directions,
+  is-free,
+  is-reals,
+)
+  where
+    is-sides : at .sides ≡ at .polygons
+    is-sides = omega (arith, laid)
+
+    is-work : at .work ≡ at .polygons + 6 * at .vertices
+    is-work = omega (arith, laid)
+
+    is-faces : at .faces ≡ at .polygons + 8 * at .vertices
+    is-faces = omega (arith, laid)
+
+    is-firsts : at .firsts ≡ 2 * at .polygons + 8 * at .vertices
+    is-firsts = omega (arith, laid)
+
+    is-readings : at .readings ≡ 2 * at .polygons + 8 * at .vertices + 1024
+    is-readings = omega (arith, laid)
+
+    is-hits : at .hits ≡ 3 * at .polygons + 8 * at .vertices + 1024
+    is-hits = omega (arith, laid)
+
+    is-order : at .order ≡ 4 * at .polygons + 8 * at .vertices + 1024
+    is-order = omega (arith, laid)
+
+    is-kinds : at .kinds ≡ 6 * at .polygons + 8 * at .vertices + 1024
+    is-kinds = omega (arith, laid)
+
+    is-spare : at .spare ≡ 7 * at .polygons + 8 * at .vertices + 1024
+    is-spare = omega (arith, laid)
+
+    is-words : at .words ≡ 8 * at .polygons + 8 * at .vertices + 1024
+    is-words = omega (arith, laid)
+
+    is-areas : at .areas ≡ 4 * at .polygons
+    is-areas = omega (arith, laid)
+
+    is-totals : at .totals ≡ 5 * at .polygons
+    is-totals = omega (arith, laid)
+
+    is-volumes : at .volumes ≡ 5 * at .polygons + 1024
+    is-volumes = omega (arith, laid)
+
+    is-falling : at .falling ≡ 6 * at .polygons + 1024
+    is-falling = omega (arith, laid)
+
+    is-thickness : at .thickness ≡ 7 * at .polygons + 1024
+    is-thickness = omega (arith, laid)
+
+    is-weights : at .weights ≡ 8 * at .polygons + 1024
+    is-weights = omega (arith, laid)
+
+    is-rounds : at .rounds ≡ 9 * at .polygons + 1024
+    is-rounds = omega (arith, laid)
+
+    is-directions : at .directions ≡ 16 * at .polygons + 1024
+    is-directions = omega (arith, laid)
+
+    is-free : at .free ≡ 16 * at .polygons + at .vertices + 1024
+    is-free = omega (arith, laid)
+
+    is-reals : at .reals ≡ 16 * at .polygons + 8 * at .vertices + 2048
+    is-reals = omega (arith, laid)

@@ -1,0 +1,28 @@
+-- `scratch::regions::Regions::of` meets its contract.
+use mathlib.Core.Path.{_∙_}
+use Rattle.file_ok.proofs.ReadableLaws.{readable-counts}
+use Rattle.solid_faces.proofs.BodyLaws.{readable-long, checked-readable}
+use native.Mathlib.Omega.{arith}
+use Rattle.scratch.proofs.regions.Regions.of.Statement.{statement}
+use Rattle.scratch.proofs.regions.Regions.of.Tie as tie
+
+polygon-count-requires : tie.Need-polygon-count-requires
+polygon-count-requires c κs = readable-long _ (checked-readable _ (c .before .pre))
+
+vertex-count-requires : tie.Need-vertex-count-requires
+vertex-count-requires c κs = readable-long _ (checked-readable _ (c .before .before .pre))
+
+new-requires : tie.Need-new-requires
+new-requires c κs = let n = readable-counts _ (checked-readable _ (c .before .before .before .pre)) in (omega (arith, n .1, c .before .polygon-count .ensures), omega (arith, n .0, c .vertex-count .ensures))
+
+returns : tie.Need-returns
+returns c = record { checked = c .before .before .before .before .pre; laid = c .new .ensures .0; polygons = c .new .ensures .1 .0 ∙ c .before .before .polygon-count .ensures; vertices = c .new .ensures .1 .1 ∙ c .before .vertex-count .ensures }
+
+pub of-spec : {M : Type 1} → statement M
+of-spec =
+    tie.close
+    (tie.spec
+    polygon-count-requires
+    vertex-count-requires
+    new-requires
+    returns)

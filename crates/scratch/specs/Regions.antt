@@ -1,0 +1,85 @@
+-- The regions of the lent scratch, as numbers of cells. Definitions only.
+use mathlib.Core.Path.{_≡_}
+use Prim.Native.Nat.{ℕ, _+_, _*_, _≤_}
+use Rattle.scratch.specs.declared.regions.Regions.{Regions}
+
+-- 10: "f64 scratch under 16P + 8V + 2,048 or u32 scratch under 8P + 8V + 1,024"
+abbrev pub wordsNeeded : ℕ → ℕ → ℕ
+wordsNeeded p v = 8 * p + 8 * v + 1024
+
+abbrev pub realsNeeded : ℕ → ℕ → ℕ
+realsNeeded p v = 16 * p + 8 * v + 2048
+
+-- the regions follow each other, each as long as what stands there needs
+pub record Laid (at : Regions) : Type 0 where
+  -- as many as an accepted part has at most
+  pub few : at .polygons ≤ 4096
+  pub short : at .vertices ≤ 16384
+  -- ---- u32: from 0 on the body of each polygon, by its lowest polygon
+  -- eight cells a side; while the bodies are found their work stands here
+  pub sides : at .sides ≡ at .polygons
+  pub work : at .work ≡ at .sides + 6 * at .vertices
+  -- the face of each polygon
+  pub faces : at .faces ≡ at .sides + 8 * at .vertices
+  -- the first polygon of each face
+  pub firsts : at .firsts ≡ at .faces + at .polygons
+  -- the polygon that each thickness reading starts from
+  pub readings : at .readings ≡ at .firsts + 1024
+  -- the polygon that each reading's ray hits
+  pub hits : at .hits ≡ at .readings + at .polygons
+  -- the work of sorting: a face's polygons by falling area, or readings by thickness
+  pub order : at .order ≡ at .hits + at .polygons
+  -- what each face is as a round: 0 none, 1 convex, 2 concave, 3 a hole
+  pub kinds : at .kinds ≡ at .order + 2 * at .polygons
+  -- not used yet
+  pub spare : at .spare ≡ at .kinds + at .polygons
+  -- the end
+  pub words : at .words ≡ wordsNeeded (at .polygons) (at .vertices)
+  -- ---- f64: from 0 on four numbers for the plane of each polygon
+  -- the area of each polygon
+  pub areas : at .areas ≡ 4 * at .polygons
+  -- the area of each face
+  pub totals : at .totals ≡ at .areas + at .polygons
+  -- the volume of each body, at its lowest polygon
+  pub volumes : at .volumes ≡ at .totals + 1024
+  -- the area of each polygon, negated: the keys by which polygons go by falling area
+  pub falling : at .falling ≡ at .volumes + at .polygons
+  -- the thickness of each reading, and the area of the polygon that it starts from
+  pub thickness : at .thickness ≡ at .falling + at .polygons
+  pub weights : at .weights ≡ at .thickness + at .polygons
+  -- seven numbers for each face that is a round: axis, length and centre
+  pub rounds : at .rounds ≡ at .weights + at .polygons
+  -- the directions of a round's vertices, of one round at a time
+  pub directions : at .directions ≡ at .rounds + 7 * at .polygons
+  -- not used yet
+  pub free : at .free ≡ at .directions + at .vertices
+  -- the end
+  pub reals : at .reals ≡ realsNeeded (at .polygons) (at .vertices)
+
+-- ---- the same as a function of P and V: `only-regions` of the laws says that a struct which is laid out so is this one
+unfoldable pub regionsOf : ℕ → ℕ → Regions
+regionsOf p v =
+    record {
+      polygons = p;
+      vertices = v;
+      sides = p;
+      work = p + 6 * v;
+      faces = p + 8 * v;
+      firsts = 2 * p + 8 * v;
+      readings = 2 * p + 8 * v + 1024;
+      hits = 3 * p + 8 * v + 1024;
+      order = 4 * p + 8 * v + 1024;
+      kinds = 6 * p + 8 * v + 1024;
+      spare = 7 * p + 8 * v + 1024;
+      words = wordsNeeded p v;
+      areas = 4 * p;
+      totals = 5 * p;
+      volumes = 5 * p + 1024;
+      falling = 6 * p + 1024;
+      thickness = 7 * p + 1024;
+      weights = 8 * p + 1024;
+      rounds = 9 * p + 1024;
+      directions = 16 * p + 1024;
+      free = 16 * p + v + 1024;
+      reals = realsNeeded p v;
+    }

@@ -1,0 +1,86 @@
+// Where each region of the lent scratch begins. No other crate counts cells: they take these numbers.
+ghost use mathlib.Core.Path.{_≡_};
+ghost use Prim.Native.Nat.{_≤_};
+ghost use Rattle.solid_faces.specs.Faces.{Checked};
+ghost use Rattle.scratch.specs.Regions.{Laid};
+ghost use Rattle.scratch.specs.Standing.{Placed};
+use file_part::read::polygon_count;
+use file_part::read::vertex_count;
+
+// For a part of so many polygons and vertices. What stands in each region: specs/Regions.antt.
+pub struct Regions {
+    pub polygons: usize,
+    pub vertices: usize,
+    // u32, after the bodies of the polygons, which stand from 0 on
+    pub sides: usize,
+    pub work: usize,
+    pub faces: usize,
+    pub firsts: usize,
+    pub readings: usize,
+    pub hits: usize,
+    pub order: usize,
+    pub kinds: usize,
+    pub spare: usize,
+    pub words: usize,
+    // f64, after the planes of the polygons, which stand from 0 on
+    pub areas: usize,
+    pub totals: usize,
+    pub volumes: usize,
+    pub falling: usize,
+    pub thickness: usize,
+    pub weights: usize,
+    pub rounds: usize,
+    pub directions: usize,
+    pub free: usize,
+    pub reals: usize,
+}
+
+impl Regions {
+    pub fn new(polygons: usize, vertices: usize) -> Regions
+        requires { ⌜ polygons ≤ 4096 ⌝ ∗ ⌜ vertices ≤ 16384 ⌝ }
+        ensures { λ r. ⌜ Laid r ⌝ ∗ ⌜ r .polygons ≡ polygons ⌝ ∗ ⌜ r .vertices ≡ vertices ⌝ }
+    {
+        let faces = polygons + 8 * vertices;
+        let firsts = faces + polygons;
+        let readings = firsts + 1024;
+        let order = readings + 2 * polygons;
+        let kinds = order + 2 * polygons;
+        let totals = 5 * polygons;
+        let volumes = totals + 1024;
+        let falling = volumes + polygons;
+        let rounds = falling + 3 * polygons;
+        let directions = rounds + 7 * polygons;
+        Regions {
+            polygons: polygons,
+            vertices: vertices,
+            sides: polygons,
+            work: polygons + 6 * vertices,
+            faces: faces,
+            firsts: firsts,
+            readings: readings,
+            hits: readings + polygons,
+            order: order,
+            kinds: kinds,
+            spare: kinds + polygons,
+            words: kinds + 2 * polygons,
+            areas: 4 * polygons,
+            totals: totals,
+            volumes: volumes,
+            falling: falling,
+            thickness: falling + polygons,
+            weights: falling + 2 * polygons,
+            rounds: rounds,
+            directions: directions,
+            free: directions + vertices,
+            reals: directions + 8 * vertices + 1024,
+        }
+    }
+
+    // For the part of a file.
+    pub fn of(file: &[u8]) -> Regions
+        requires { ⌜ Checked (now file) ⌝ }
+        ensures { λ r. ⌜ Placed (now (file .entry)) r ⌝ }
+    {
+        Regions::new(polygon_count(file), vertex_count(file))
+    }
+}

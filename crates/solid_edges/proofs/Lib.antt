@@ -1,0 +1,29 @@
+-- The laws on edges. An index of those that other crates cite, file by file.
+-- IdLaws: the ids of faces
+--   first-begins, first-below, first-number   the first polygon of a face below facesOf
+--   ids-apart               faces of different numbers have different ids
+--   id-irreflexive, id-transitive, id-total, face-irreflexive, face-transitive, face-total   the order of ids, and of faces
+-- ScanLaws: what the lent slices of an accepted file hold
+--   owner-below, end-below, face-below   the polygon, the end and the face of a side are there
+--   known-readable, lent-readable, few-vertices, few-faces, vertex-room
+-- EdgeLaws
+--   beyond-below, other-below            the faces of an edge are there
+--   edge-between, between-edge           an edge is a shared segment between different faces, and back
+--   leads-edge, leads-within             what `leadsTo` says
+-- NeighbourLaws: the loops of `next_neighbour` and `first_between`
+-- NextLaws: `nextNeighbour` with nothing computed
+--   next-is, is-next        g + 1 is the neighbour past `after` of the lowest id, and back; next-unique
+--   next-none, none-next    0 is that no side is wanted, and back
+--   next-edge, next-below, next-after, next-first   it is a neighbour, comes strictly after, and passes over none
+-- TourLaws: asked again and again from 0 on
+--   tour-neighbour, tour-rises, tour-meets   each answer is a neighbour, they rise in their ids, and every neighbour is met
+-- DistanceLaws
+--   least-near, least-past, edge-all, between-all   the loops: the root of the least square is the least distance
+--   distance-least          the distance of some edge, with none nearer, or infinity
+pub mod IdLaws
+pub mod ScanLaws
+pub mod EdgeLaws
+pub mod NeighbourLaws
+pub mod NextLaws
+pub mod TourLaws
+pub mod DistanceLaws

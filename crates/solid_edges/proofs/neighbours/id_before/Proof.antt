@@ -1,0 +1,12 @@
+-- `solid_edges::neighbours::id_before` meets its contract.
+use mathlib.Core.Path.{refl}
+use Rattle.solid_edges.specs.Neighbours.{idBefore}
+use Rattle.solid_edges.proofs.neighbours.id_before.Statement.{statement}
+use Rattle.solid_edges.proofs.neighbours.id_before.Tie as tie
+
+returns : tie.Need-returns
+unfolding idBefore
+returns c = refl
+
+pub id-before-spec : {M : Type 1} → statement M
+id-before-spec = tie.close (tie.spec returns)

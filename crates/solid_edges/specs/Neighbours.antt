@@ -1,0 +1,66 @@
+-- `neighbours` of dfm.rs: the faces that a face has an edge with, in rising order of their ids. Definitions only.
+-- A face or none is one number: 0 is none, and g + 1 is face g.
+use mathlib.Core.Path.{_≡_}
+use mathlib.Core.Bool.{Bool, true, false, _&&_, _||_, cond}
+use Prim.Native.Nat.{ℕ, zero, suc, _-_, _<_}
+use lib.Dec.{eqb, ltb}
+use Rattle.list_laws.specs.Below.{lowestBelow}
+use Rattle.file_part.specs.declared.read.FaceId.{FaceId}
+use Rattle.file_part.specs.Part.{Part}
+use Rattle.solid_faces.specs.Faces.{firstPolygon}
+use Rattle.solid_edges.specs.Edges.{isEdgeOf, otherFace, isBetween}
+
+-- ids as the Rust orders them: by feature, then by index
+unfoldable pub idBefore : FaceId → FaceId → Bool
+idBefore a b = ltb (a .feature) (b .feature) || (eqb (a .feature) (b .feature) && ltb (a .index) (b .index))
+
+unfoldable pub idOf : Part → ℕ → FaceId
+idOf t f = t .polygon (firstPolygon t f) .face
+
+-- face g has a lower id than face h
+unfoldable pub faceBefore : Part → ℕ → ℕ → Bool
+faceBefore t g h = idBefore (idOf t g) (idOf t h)
+
+-- face g comes past `after`, in the order of ids
+unfoldable pub isPast : Part → ℕ → ℕ → Bool
+isPast t after g = eqb after 0 || faceBefore t (after - 1) g
+
+-- edge s leads from face f to a face past `after`
+unfoldable pub isWanted : Part → ℕ → ℕ → ℕ → Bool
+isWanted t f after s = isEdgeOf t f s && isPast t after (otherFace t f s)
+
+-- face g comes before the best yet
+unfoldable pub isBetter : Part → ℕ → ℕ → Bool
+isBetter t best g = eqb best 0 || faceBefore t g (best - 1)
+
+-- the better of the best yet and the face g that an edge leads to; both 0 or one more than a face
+unfoldable pub betterOf : Part → ℕ → ℕ → ℕ → ℕ
+betterOf t after best g = cond (eqb g 0) best (cond (isPast t after (g - 1) && isBetter t best (g - 1)) g best)
+
+-- of the wanted edges below n, the face of the lowest id
+unfoldable pub neighbourTo : Part → ℕ → ℕ → ℕ → ℕ
+neighbourTo t f after zero = 0
+neighbourTo t f after (suc s) =
+    cond (isWanted t f after s && isBetter t (neighbourTo t f after s) (otherFace t f s)) (suc (otherFace t f s)) (neighbourTo t f after s)
+
+-- the neighbour of face f that comes next after `after`
+unfoldable pub nextNeighbour : Part → ℕ → ℕ → ℕ
+nextNeighbour t f after = neighbourTo t f after (t .vertices)
+
+-- one after the other: the first, and the next after each; 0 past the last
+unfoldable pub neighbourAt : Part → ℕ → ℕ → ℕ
+neighbourAt t f zero = nextNeighbour t f 0
+neighbourAt t f (suc k) = cond (eqb (neighbourAt t f k) 0) 0 (nextNeighbour t f (neighbourAt t f k))
+
+-- ---- the same, with nothing computed
+-- face g is the neighbour of f past `after` of the lowest id
+pub record NextNeighbour (t : Part) (f after g : ℕ) : Type 0 where
+  pub edge : ℕ
+  pub below : edge < t .vertices
+  pub wanted : isWanted t f after edge ≡ true
+  pub leads : otherFace t f edge ≡ g
+  pub least : (s : ℕ) → s < t .vertices → isWanted t f after s ≡ true → faceBefore t (otherFace t f s) g ≡ false
+
+-- the first edge between faces f and g, in the order of the shared segments; V where there is none
+unfoldable pub firstBetween : Part → ℕ → ℕ → ℕ
+firstBetween t f g = lowestBelow (t .vertices) (isBetween t f g)

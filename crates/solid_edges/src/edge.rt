@@ -1,0 +1,116 @@
+// Whether a side is an edge, and between which faces.
+ghost use mathlib.Core.Path.{_≡_};
+ghost use Prim.Native.Nat.{_<_};
+ghost use lib.ListN.{length, getD};
+ghost use Rattle.file_part.specs.Layout.{vertexCount};
+ghost use Rattle.file_part.specs.Part.{partOf};
+ghost use Rattle.solid_edges.specs.Edges.{pairIn, faceOfSide, isEdgeOf, isBetween, leadsTo, EdgeIs};
+ghost use Rattle.solid_edges.specs.Scan.{Lent};
+use file_part::read::vertex_count;
+
+// A side seen as an edge: whether it is one, its own face and the face beyond. For a side that is no edge the faces mean nothing.
+pub struct Edge {
+    pub is_edge: bool,
+    pub near: usize,
+    pub beyond: usize,
+}
+
+// A u32 as an index.
+fn wide(n: u32) -> usize
+    ensures { λ r. ⌜ r ≡ n ⌝ }
+{
+    n as usize
+}
+
+// The number at a place.
+pub fn cell(cells: &[u32], at: usize) -> usize
+    requires { ⌜ at < length (now cells) ⌝ }
+    ensures { λ r. ⌜ r ≡ getD (now (cells .entry)) at 0 ⌝ }
+{
+    wide(cells[at])
+}
+
+// The pair of side s. (Here and below the file is lent for its meaning: the slices hold what was found in it.)
+fn pair_at(file: &[u8], sides: &[u32], faces: &[u32], s: usize) -> usize
+    requires { ⌜ Lent (now file) (now sides) (now faces) ⌝ ∗ ⌜ s < vertexCount (now file) ⌝ }
+    ensures { λ r. ⌜ r ≡ pairIn (partOf (now (file .entry))) s ⌝ }
+{
+    cell(sides, s * 8 + 7)
+}
+
+// The face of side s.
+fn face_at(file: &[u8], sides: &[u32], faces: &[u32], s: usize) -> usize
+    requires { ⌜ Lent (now file) (now sides) (now faces) ⌝ ∗ ⌜ s < vertexCount (now file) ⌝ }
+    ensures { λ r. ⌜ r ≡ faceOfSide (partOf (now (file .entry))) s ⌝ }
+{
+    cell(faces, cell(sides, s * 8 + 4))
+}
+
+// Side s seen as an edge.
+pub fn edge_at(file: &[u8], sides: &[u32], faces: &[u32], s: usize) -> Edge
+    requires { ⌜ Lent (now file) (now sides) (now faces) ⌝ ∗ ⌜ s < vertexCount (now file) ⌝ }
+    ensures { λ r. ⌜ EdgeIs (partOf (now (file .entry))) s r ⌝ }
+{
+    let pair = pair_at(file, sides, faces, s);
+    // No other side has the key of side s, or s is not the first that has it.
+    if pair <= s + 1 {
+        return Edge {
+            is_edge: false,
+            near: 0,
+            beyond: 0,
+        };
+    }
+    // More than two sides have it.
+    if vertex_count(file) < pair {
+        return Edge {
+            is_edge: false,
+            near: 0,
+            beyond: 0,
+        };
+    }
+    let near = face_at(file, sides, faces, s);
+    let beyond = face_at(file, sides, faces, pair - 1);
+    Edge {
+        is_edge: near != beyond,
+        near: near,
+        beyond: beyond,
+    }
+}
+
+// The face that side s leads to from face f: 0 is none, and g + 1 is face g.
+pub fn leads_to(file: &[u8], sides: &[u32], faces: &[u32], f: usize, s: usize) -> usize
+    requires { ⌜ Lent (now file) (now sides) (now faces) ⌝ ∗ ⌜ s < vertexCount (now file) ⌝ }
+    ensures { λ r. ⌜ r ≡ leadsTo (partOf (now (file .entry))) f s ⌝ }
+{
+    let e = edge_at(file, sides, faces, s);
+    if !e.is_edge {
+        return 0;
+    }
+    if e.near == f {
+        return e.beyond + 1;
+    }
+    if e.beyond == f {
+        return e.near + 1;
+    }
+    0
+}
+
+// Whether side s is an edge of face f.
+pub fn is_edge_of(file: &[u8], sides: &[u32], faces: &[u32], f: usize, s: usize) -> bool
+    requires { ⌜ Lent (now file) (now sides) (now faces) ⌝ ∗ ⌜ s < vertexCount (now file) ⌝ }
+    ensures { λ r. ⌜ r ≡ isEdgeOf (partOf (now (file .entry))) f s ⌝ }
+{
+    0 < leads_to(file, sides, faces, f, s)
+}
+
+// Whether side s is an edge between faces f and g.
+pub fn is_between(file: &[u8], sides: &[u32], faces: &[u32], f: usize, g: usize, s: usize) -> bool
+    requires { ⌜ Lent (now file) (now sides) (now faces) ⌝ ∗ ⌜ s < vertexCount (now file) ⌝ }
+    ensures { λ r. ⌜ r ≡ isBetween (partOf (now (file .entry))) f g s ⌝ }
+{
+    let to = leads_to(file, sides, faces, f, s);
+    if to == 0 {
+        return false;
+    }
+    to - 1 == g
+}

@@ -1,0 +1,110 @@
+-- `solid_faces::areas::put_areas` meets its contract.
+use borrow.Author.Needs.{needs}
+use mathlib.Core.Path.{_≡_, refl}
+use Prim.Native.Nat.{_-_, _≤_, _<_}
+use native.Mathlib.Omega.{arith}
+use lib.ListN.{length, length-set}
+use denote.Ref.{now}
+use Rattle.file_part.specs.Part.{partOf}
+use Rattle.file_ok.specs.Verdict.{Readable}
+use Rattle.solid_faces.specs.Kept.{KeptAreas}
+use Rattle.solid_faces.proofs.BodyLaws.{readable-long, EntryRoom, entry-room, RunRoom, run-room, run-area, checked-readable}
+use Rattle.solid_faces.proofs.KeptLaws.{areas-none, areas-more, areas-all}
+use Rattle.solid_faces.proofs.areas.put_areas.Statement.{statement}
+use Rattle.solid_faces.proofs.areas.put_areas.Tie as tie
+
+abbrev Inv-loop : tie.InvT-loop
+Inv-loop file areas₀ vertices polygons p₀ areas p = (p ≤ polygons) × (length areas ≡ length areas₀) × KeptAreas (partOf file) p areas
+
+abbrev μ-loop : tie.MeasureT-loop
+μ-loop file areas₀ vertices polygons p₀ areas p = polygons - p
+
+-- what the function was called with
+abbrev start : tie.In-loop Inv-loop μ-loop → tie.Start Inv-loop μ-loop
+start c = c .before .before .before .before .before .before
+
+readable : (c : tie.In-loop Inv-loop μ-loop) → Readable (now (start c .args .file))
+readable c = checked-readable _ (start c .pre .0)
+
+-- the polygon's entry
+entry : (c : tie.In-loop Inv-loop μ-loop) → EntryRoom (now (start c .args .file)) (c .before .before .before .vertex-count .result) (c .before .loop .p)
+entry c =
+    entry-room _ _ _ _ (readable c) (c .before .before .before .vertex-count .ensures) (c .before .before .polygon-count .ensures) (c .loop-test .taken)
+
+-- and its run of vertices
+run : (c : tie.After-run-length Inv-loop μ-loop) →
+    RunRoom (now (start (c .before .before .before) .args .file)) (c .before .first-vertex .result) (c .run-length .result)
+run c =
+    let i = c .before .before .before in
+    let place = c .before .before .entry-at .ensures in
+    run-room _ _ _ _ _ _ (readable i) (i .before .before .before .vertex-count .ensures) (i .before .before .polygon-count .ensures) (i .loop-test .taken)
+    (rw place at (c .before .first-vertex .ensures)) (rw place at (c .run-length .ensures .0))
+
+-- the polygon's area has its place
+room : (c : tie.In-loop Inv-loop μ-loop) → c .before .loop .p < length (c .before .loop .areas)
+room c = omega (arith, c .loop-test .taken, c .before .before .polygon-count .ensures, start c .pre .1, c .before .loop .inv .1)
+
+vertex-count-requires : tie.Need-vertex-count-requires Inv-loop μ-loop
+vertex-count-requires c κs = readable-long _ (checked-readable _ (c .before .before .pre .0))
+
+polygon-count-requires : tie.Need-polygon-count-requires Inv-loop μ-loop
+polygon-count-requires c κs = readable-long _ (checked-readable _ (c .before .before .before .pre .0))
+
+loop-holds : tie.Need-loop-holds Inv-loop μ-loop
+loop-holds c = (omega arith, refl, areas-none _ _)
+
+entry-at-requires : tie.Need-entry-at-requires Inv-loop μ-loop
+entry-at-requires c κs = (entry c .vertices, entry c .polygon)
+
+first-vertex-requires : tie.Need-first-vertex-requires Inv-loop μ-loop
+first-vertex-requires c κs = rw (c .entry-at .ensures) (entry (c .before) .inside)
+
+run-length-requires : tie.Need-run-length-requires Inv-loop μ-loop
+run-length-requires c κs = rw (c .before .entry-at .ensures) (entry (c .before .before) .inside)
+
+poly-area-requires : tie.Need-poly-area-requires Inv-loop μ-loop
+poly-area-requires c κs = (run c .inside, run c .least)
+
+mul-areas : tie.Need-mul-areas Inv-loop μ-loop
+mul-areas c = omega (arith, room (c .before .before .before .before))
+
+slice-write-areas : tie.Need-slice-write-areas Inv-loop μ-loop
+slice-write-areas c = room (c .before .before .before .before)
+
+loop-again : tie.Need-loop-again Inv-loop μ-loop
+loop-again c =
+    let i = c .before .before .before .before in
+    let area
+    = run-area _ _ _ _ _ _ _ (i .before .before .before .vertex-count .ensures) (c .before .before .before .entry-at .ensures)
+    (c .before .before .first-vertex .ensures) (c .before .run-length .ensures .0) (c .poly-area .ensures) in
+    (omega (arith, i .loop-test .taken), simp length-set (i .before .loop .inv .1), areas-more _ _ _ _ (room i) area (i .before .loop .inv .2))
+
+same-length : tie.Need-same-length Inv-loop μ-loop
+same-length c = c .before .loop .inv .1
+
+returns : tie.Need-returns Inv-loop μ-loop
+returns c =
+    let l = c .before .loop in
+    let m = c .before .before .polygon-count in
+    (areas-all _ _ _ _ (omega (arith, m .ensures, l .inv .0)) (omega (arith, m .ensures, c .loop-test .left)) (l .inv .2), l .inv .1)
+
+pub put-areas-spec : {M : Type 1} → statement M
+put-areas-spec =
+    tie.close
+    (tie.spec
+    Inv-loop
+    μ-loop
+    vertex-count-requires
+    polygon-count-requires
+    loop-holds
+    entry-at-requires
+    first-vertex-requires
+    run-length-requires
+    poly-area-requires
+    mul-areas
+    slice-write-areas
+    (λ c. search needs)
+    (λ c. search needs)
+    loop-again
+    same-length
+    returns)

@@ -1,0 +1,70 @@
+-- The sides of a part's polygons, and which of them have one key. Definitions only.
+-- The vertex runs follow on and fill the vertex block, so a side has the number of the vertex that it begins at, in the order
+-- "by polygon, then side".
+use mathlib.Core.Path.{_≡_}
+use mathlib.Core.Bool.{Bool, cond}
+use mathlib.Core.List.{List}
+use Prim.Native.Nat.{ℕ, _+_, _*_, _≤_, _<_}
+use lib.Dec.{eqb, leb}
+use lib.ListN.{length}
+use Rattle.list_laws.specs.Below.{sumBelow}
+use Rattle.file_part.specs.Part.{Part}
+use Rattle.solid_segments.specs.Key.{segmentScale, sameKey}
+use Rattle.solid_keys.specs.Pair.{isLive, sideKey, pairOf, Shared, Alone, Many}
+use Rattle.solid_keys.specs.Columns.{col}
+
+-- the vertex after the run of polygon p
+unfoldable pub runEnd : Part → ℕ → ℕ
+runEnd t p = t .polygon p .first + t .polygon p .count
+
+-- the polygon of side s: as many polygons as have runs that end at s or before
+unfoldable pub ownerOf : Part → ℕ → ℕ
+ownerOf t s = sumBelow (t .polygons) (λ p. cond (leb (runEnd t p) s) 1 0)
+
+-- the vertex after s in a run from `first` to before `end`; after the last comes the first
+unfoldable pub nextOf : ℕ → ℕ → ℕ → ℕ
+nextOf first end s = cond (eqb (s + 1) end) first (s + 1)
+
+-- the vertex where side s ends
+unfoldable pub toOf : Part → ℕ → ℕ
+toOf t s = nextOf (t .polygon (ownerOf t s) .first) (runEnd t (ownerOf t s)) s
+
+-- side s lies in the run of a polygon, and ends at a vertex
+pub record Owned (t : Part) (s : ℕ) : Type 0 where
+  pub low : ownerOf t s < t .polygons
+  pub from : t .polygon (ownerOf t s) .first ≤ s
+  pub before : s < runEnd t (ownerOf t s)
+  pub to : toOf t s < t .vertices
+
+-- vertices a and b have one key
+unfoldable pub sameEnd : Part → ℕ → ℕ → Bool
+sameEnd t a b = sameKey segmentScale (t .vertex a) (t .vertex b)
+
+-- the two end keys of side s differ
+unfoldable pub live : Part → ℕ → Bool
+live t s = isLive (sameEnd t) (toOf t) s
+
+-- side u has the key of side s: "the pair of end keys that `shared_segments` forms", in either order, which only a live side has
+unfoldable pub sameSide : Part → ℕ → ℕ → Bool
+sameSide t u s = sideKey (sameEnd t) (toOf t) u s
+
+-- "A shared segment": sides s and u, and no third, have one key, and s comes first
+abbrev pub SharedBy : Part → ℕ → ℕ → Type 0
+SharedBy t s u = Shared (sameSide t) (t .vertices) s u
+
+-- a side whose key no other side has
+abbrev pub AloneIn : Part → ℕ → Type 0
+AloneIn t s = Alone (sameSide t) (t .vertices) s
+
+-- the first side of a key that more than two sides have
+abbrev pub FirstOfMany : Part → ℕ → Type 0
+FirstOfMany t s = Many (sameSide t) (t .vertices) s
+
+-- What `shared_segments` leaves, for each side s of a part: in column 7 the pair of s, in column 3 the vertex where it ends, in
+-- column 4 its polygon. The shared segments in the order "in which their key first appears, by polygon, then side" are the s in
+-- rising order with a pair of s + 2 to V; `pairOf` keeps one side, two and more of a key apart.
+pub record SharedSegments (t : Part) (mem : List ℕ) : Type 0 where
+  pub long : length mem ≡ 8 * t .vertices
+  pub pairs : (s : ℕ) → s < t .vertices → col mem 7 s ≡ pairOf (sameSide t) (t .vertices) s
+  pub ends : (s : ℕ) → s < t .vertices → col mem 3 s ≡ toOf t s
+  pub owners : (s : ℕ) → s < t .vertices → col mem 4 s ≡ ownerOf t s

@@ -1,0 +1,66 @@
+-- What the columns hold on the way from an accepted file to its shared segments. Definitions only.
+use mathlib.Core.Path.{_≡_}
+use mathlib.Core.List.{List}
+use Prim.Native.Nat.{ℕ, _+_, _*_, _≤_, _<_}
+use lib.Ieee.{Float}
+use lib.ListN.{length, set}
+use Rattle.math.specs.declared.Vec3.{Vec3}
+use Rattle.file_part.specs.Layout.{vertexCount}
+use Rattle.file_part.specs.Part.{Part, partOf}
+use Rattle.file_ok.specs.Rules.{runStart}
+use Rattle.file_ok.specs.Verdict.{Readable}
+use Rattle.solid_segments.specs.Key.{segmentScale, keyCell}
+use Rattle.solid_keys.specs.Columns.{col}
+use Rattle.solid_segments.specs.Sides.{ownerOf, toOf}
+
+-- where the run of polygon p of a file begins
+abbrev pub startOf : List ℕ → ℕ → ℕ
+startOf file p = runStart file (vertexCount file) p
+
+-- the run of polygon p of a file with v vertices, from a vertex to before another
+pub record RunAt (file : List ℕ) (v p first end : ℕ) : Type 0 where
+  pub first-is : first ≡ startOf file p
+  pub end-is : end ≡ startOf file (p + 1)
+  pub rises : first ≤ end
+  pub below : end ≤ v
+  pub few : v ≤ 16384
+  pub low : p < 4096
+
+-- a coordinate's key in a column, from 0 to 2 * 10 ^ 8
+abbrev pub cellOf : Float → ℕ
+cellOf x = keyCell segmentScale 100000000 x
+
+-- columns 0 to 3 of side s
+pub record Placed (t : Part) (mem : List ℕ) (s : ℕ) : Type 0 where
+  pub x : col mem 0 s ≡ cellOf (t .vertex s .x)
+  pub y : col mem 1 s ≡ cellOf (t .vertex s .y)
+  pub z : col mem 2 s ≡ cellOf (t .vertex s .z)
+  pub end : col mem 3 s ≡ toOf t s
+
+-- those of the sides below i
+unfoldable pub PlacedBelow : Part → List ℕ → ℕ → Type 0
+PlacedBelow t mem i = (s : ℕ) → s < i → Placed t mem s
+
+-- the polygons of the sides below i in column 4, and the other columns as they were
+pub record OwnedBelow (t : Part) (old mem : List ℕ) (i : ℕ) : Type 0 where
+  pub owners : (s : ℕ) → s < i → col mem 4 s ≡ ownerOf t s
+  pub others : (j : ℕ) → j < 8 → (j ≡ 4 → ⊥) → (s : ℕ) → col mem j s ≡ col old j s
+
+-- a side's cells in place
+abbrev pub sideRow : Vec3 → ℕ → ℕ → List ℕ → List ℕ
+sideRow v s to mem =
+    set (set (set (set mem (s * 8 + 0) (cellOf (v .x))) (s * 8 + 1) (cellOf (v .y))) (s * 8 + 2) (cellOf (v .z))) (s * 8 + 3) to
+
+-- whatever the polygons are put over, if those of the sides below i are in place in one slice, those of the sides below k are in the other
+unfoldable pub OwnsMore : Part → List ℕ → List ℕ → ℕ → ℕ → Type 0
+OwnsMore t mem new i k = (old : List ℕ) → OwnedBelow t old mem i → OwnedBelow t old new k
+
+-- so for the sides of polygon p
+abbrev pub OwnsRun : List ℕ → List ℕ → List ℕ → ℕ → Type 0
+OwnsRun file mem new p = OwnsMore (partOf file) mem new (startOf file p) (startOf file (p + 1))
+
+-- an accepted file with v vertices, and eight cells for each
+pub record Lent (file mem : List ℕ) (v : ℕ) : Type 0 where
+  pub readable : Readable file
+  pub is-count : v ≡ vertexCount file
+  pub long : length mem ≡ 8 * v

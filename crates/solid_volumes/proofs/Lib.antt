@@ -1,0 +1,2 @@
+-- VolumeLaws: the sums of the volumes as the code adds them, for the proofs here.
+pub mod VolumeLaws

@@ -1,2 +1,0 @@
--- One stage of the body alone.
-pub mod Stage
