@@ -2,8 +2,8 @@
 """The sine table of document 01, replacement 4: entry k, for k from 0 to 900, is the whole number nearest to
 2^50 times the sine of k tenths of a degree.
 
-usage: sine_table.py src            print the entries as crates/sine/src/table.rt has them
-       sine_table.py specs          print the entries as crates/sine/specs/Table.antt has them
+usage: sine_table.py src            print the entries as crates/num_sine/src/table.rt has them
+       sine_table.py specs          print the entries as crates/num_sine/specs/Table.antt has them
        sine_table.py --check FILE.. see that each of these files holds exactly this table
 
 Only whole numbers are used: a fraction is counted in units of 2^-200, and its error is some hundred units at most.

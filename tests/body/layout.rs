@@ -15,8 +15,7 @@ pub struct Layout {
 }
 
 impl Layout {
-    /// The least that `gablemadder_body`, `gablemadder_samples` and `gablemadder_rounds` have to be lent, of u32 and of f64: document 01's
-    /// refusal 10.
+    /// The scratch that a call which puts the body has to be lent, of u32 and of f64: document 01's refusal 10.
     pub fn lent(&self) -> (usize, usize) {
         let (p, v) = (self.polygons, self.vertices);
         (8 * p + 8 * v + 1024, 16 * p + 8 * v + 2048)
@@ -80,11 +79,6 @@ impl Layout {
         self.words_end() + self.polygons + k
     }
 
-    /// How many readings there are; only where there are polygons.
-    pub fn readings(&self) -> usize {
-        self.words_end() + 5 * self.polygons
-    }
-
     pub fn thickness(&self, k: usize) -> usize {
         7 * self.polygons + 1024 + k
     }
@@ -101,11 +95,6 @@ impl Layout {
     /// Its axis (3), its length and its centre (3).
     pub fn round(&self, f: usize) -> usize {
         9 * self.polygons + 1024 + 7 * f
-    }
-
-    /// The least that `gablemadder_raycast` has to be lent for planes.
-    pub fn lent_for_planes(&self) -> usize {
-        4 * self.polygons
     }
 }
 

@@ -1,5 +1,5 @@
-//! The functions of `crates/exports` as Rust sees them. Nothing checks these declarations against the Rattle source, so they are few and
-//! plain: numbers pass as themselves, a slice as a pointer and a length.
+//! The functions of `crates/exports`, and those of the probes (`crates/probe_*`), as Rust sees them. Nothing checks these declarations against the
+//! Rattle source, so they are few and plain: numbers pass as themselves, a slice as a pointer and a length. A test links the libraries that it calls.
 #![allow(dead_code)]
 
 mod c {
@@ -24,8 +24,6 @@ mod c {
         pub fn gablemadder_body(file: *const u8, len: usize, words: *mut u32, words_len: usize, reals: *mut f64, reals_len: usize) -> u32;
         pub fn gablemadder_shared_segments(file: *const u8, len: usize, mem: *mut u32, mem_len: usize) -> u32;
         pub fn gablemadder_bodies(file: *const u8, len: usize, mem: *mut u32, mem_len: usize) -> u32;
-        pub fn gablemadder_samples(file: *const u8, len: usize, words: *mut u32, words_len: usize, reals: *mut f64, reals_len: usize) -> u32;
-        pub fn gablemadder_rounds(file: *const u8, len: usize, words: *mut u32, words_len: usize, reals: *mut f64, reals_len: usize) -> u32;
         pub fn gablemadder_sample_list(
             file: *const u8,
             len: usize,
@@ -63,18 +61,22 @@ mod c {
         pub fn gablemadder_open_towards(
             file: *const u8,
             len: usize,
-            planes: *mut f64,
-            planes_len: usize,
+            words: *mut u32,
+            words_len: usize,
+            reals: *mut f64,
+            reals_len: usize,
             rays: *const f64,
             rays_len: usize,
-            open: *mut u32,
-            open_len: usize,
+            cells: *mut u32,
+            cells_len: usize,
         ) -> u32;
         pub fn gablemadder_raycast(
             file: *const u8,
             len: usize,
-            planes: *mut f64,
-            planes_len: usize,
+            words: *mut u32,
+            words_len: usize,
+            reals: *mut f64,
+            reals_len: usize,
             rays: *const f64,
             rays_len: usize,
             polygons: *mut u32,
@@ -174,21 +176,11 @@ pub fn bodies(file: &[u8], mem: &mut [u32]) -> u32 {
     unsafe { c::gablemadder_bodies(file.as_ptr(), file.len(), mem.as_mut_ptr(), mem.len()) }
 }
 
-/// The body and the thickness readings of a part in the lent cells and 0; or the refusal from 1 to 10.
-pub fn samples(file: &[u8], words: &mut [u32], reals: &mut [f64]) -> u32 {
-    unsafe { c::gablemadder_samples(file.as_ptr(), file.len(), words.as_mut_ptr(), words.len(), reals.as_mut_ptr(), reals.len()) }
-}
-
-/// The body and the rounds of a part in the lent cells and 0; or the refusal from 1 to 10.
-pub fn rounds(file: &[u8], words: &mut [u32], reals: &mut [f64]) -> u32 {
-    unsafe { c::gablemadder_rounds(file.as_ptr(), file.len(), words.as_mut_ptr(), words.len(), reals.as_mut_ptr(), reals.len()) }
-}
-
-/// Of each ray (origin, direction) the polygon that it strikes and how far along, and the planes of all polygons, and 0; or the refusal from 1
-/// to 10.
-pub fn raycast(file: &[u8], planes: &mut [f64], rays: &[f64], polygons: &mut [u32], times: &mut [f64]) -> u32 {
-    let (p, r, k, t) = (planes.as_mut_ptr(), rays.as_ptr(), polygons.as_mut_ptr(), times.as_mut_ptr());
-    unsafe { c::gablemadder_raycast(file.as_ptr(), file.len(), p, planes.len(), r, rays.len(), k, polygons.len(), t, times.len()) }
+/// Of each ray (origin, direction) the polygon that it strikes and how far along, after the body in the scratch, and 0; or the refusal from 1 to 10.
+pub fn raycast(file: &[u8], words: &mut [u32], reals: &mut [f64], rays: &[f64], polygons: &mut [u32], times: &mut [f64]) -> u32 {
+    let (w, f, r, k, t) = (words.as_mut_ptr(), reals.as_mut_ptr(), rays.as_ptr(), polygons.as_mut_ptr(), times.as_mut_ptr());
+    let (words, reals) = (words.len(), reals.len());
+    unsafe { c::gablemadder_raycast(file.as_ptr(), file.len(), w, words, f, reals, r, rays.len(), k, polygons.len(), t, times.len()) }
 }
 
 /// Of the readings: their number, then two cells for each, and eight numbers for each.
@@ -208,7 +200,8 @@ pub fn rough(file: &[u8], words: &mut [u32], reals: &mut [f64], out: &mut [f64])
     unsafe { c::gablemadder_rough(file.as_ptr(), file.len(), w, words.len(), r, reals.len(), o, out.len()) }
 }
 
-pub fn open_towards(file: &[u8], planes: &mut [f64], rays: &[f64], open: &mut [u32]) -> u32 {
-    let (p, r, o) = (planes.as_mut_ptr(), rays.as_ptr(), open.as_mut_ptr());
-    unsafe { c::gablemadder_open_towards(file.as_ptr(), file.len(), p, planes.len(), r, rays.len(), o, open.len()) }
+/// Of each ray 1 where the line leaves the part, else 0, after the body in the scratch.
+pub fn open_towards(file: &[u8], words: &mut [u32], reals: &mut [f64], rays: &[f64], cells: &mut [u32]) -> u32 {
+    let (w, f, r, o) = (words.as_mut_ptr(), reals.as_mut_ptr(), rays.as_ptr(), cells.as_mut_ptr());
+    unsafe { c::gablemadder_open_towards(file.as_ptr(), file.len(), w, words.len(), f, reals.len(), r, rays.len(), o, cells.len()) }
 }

@@ -1,6 +1,6 @@
 //! Times of a ray over all polygons, of the readings and of the rounds, beside the Rust's with the replacements, and of the rounds beside the
-//! Rust's as published too. Ours begin at the file's bytes, the Rust's at the part it has read already: so the time of the planes or of the body
-//! alone is taken off ours, and stands beside. Each time is the best of many, taken in turn in one run.
+//! Rust's as published too. Ours begin at the file's bytes, the Rust's at the part it has read already: so the time of the body alone is
+//! taken off ours, and stands beside. Each time is the best of many, taken in turn in one run.
 #[path = "../lib/best.rs"]
 mod best;
 #[path = "../part/field.rs"]
@@ -72,11 +72,11 @@ impl Subject {
     fn time_rays(&self) -> f64 {
         let measures = Measures::of(&self.patched);
         let rays = self.rays();
-        let mut planes = vec![0.0; self.layout.lent_for_planes()];
-        let mut none = planes.clone();
+        let (mut words, mut reals) = (self.words.clone(), self.reals.clone());
+        let (mut words_of_body, mut reals_of_body) = (words.clone(), reals.clone());
         let (mut polygons, mut times) = (vec![0; RAYS], vec![0.0; RAYS]);
         let hit = |ray: &[f64]| measures.hit(oracle::math::v3(ray[0], ray[1], ray[2]), oracle::math::v3(ray[3], ray[4], ray[5]));
-        assert_eq!(gablemadder::raycast(&self.file, &mut planes, &rays, &mut polygons, &mut times), 0);
+        assert_eq!(gablemadder::raycast(&self.file, &mut words, &mut reals, &rays, &mut polygons, &mut times), 0);
         let theirs = rays.chunks(6).map(|ray| hit(ray).map_or(0.0, |h| h.t));
         assert!(times.iter().copied().eq(theirs), "{}: the times of the hits", self.name);
         let [ours, start, patched] = best_of(
@@ -84,33 +84,33 @@ impl Subject {
             RAYS,
             [
                 &mut || {
-                    black_box(gablemadder::raycast(black_box(&self.file), &mut planes, &rays, &mut polygons, &mut times));
+                    black_box(gablemadder::raycast(black_box(&self.file), &mut words, &mut reals, &rays, &mut polygons, &mut times));
                 },
                 &mut || {
-                    black_box(gablemadder::raycast(black_box(&self.file), &mut none, &[], &mut [], &mut []));
+                    black_box(gablemadder::raycast(black_box(&self.file), &mut words_of_body, &mut reals_of_body, &[], &mut [], &mut []));
                 },
                 &mut || rays.chunks(6).for_each(|ray| drop(black_box(hit(black_box(ray))))),
             ],
         );
-        let (name, planes) = (&self.name, start * RAYS as f64 / 1e6);
+        let (name, body) = (&self.name, start * RAYS as f64 / 1e6);
         let (ray, scan, ratio) = ((ours - start) / 1e3, patched / 1e3, (ours - start) / patched);
-        println!("a ray, {name}: {ray:.2} µs after {planes:.2} ms for all planes; the Rust's scan {scan:.2} µs: {ratio:.2} times theirs");
+        println!("a ray, {name}: {ray:.2} µs after {body:.2} ms for the body; the Rust's scan {scan:.2} µs: {ratio:.2} times theirs");
         ratio
     }
 
     fn time_readings(&mut self) -> f64 {
         let measures = Measures::of(&self.patched);
         let (file, words, reals) = (&self.file, &mut self.words, &mut self.reals);
-        assert_eq!(gablemadder::samples(file, words, reals), 0);
-        let found = words[self.layout.readings()] as usize;
-        assert_eq!(found, measures.readings().len(), "{}: the number of readings", self.name);
+        let (mut faces, mut numbers) = (vec![0; 2 * self.layout.polygons + 1], vec![0.0; 8 * self.layout.polygons]);
+        assert_eq!(gablemadder::sample_list(file, words, reals, &mut faces, &mut numbers), 0);
+        assert_eq!(faces[0] as usize, measures.readings().len(), "{}: the number of readings", self.name);
         let (mut words_of_body, mut reals_of_body) = (words.clone(), reals.clone());
         let [ours, body, patched] = best_of(
             ROUNDS,
             1000,
             [
                 &mut || {
-                    black_box(gablemadder::samples(black_box(file), words, reals));
+                    black_box(gablemadder::sample_list(black_box(file), words, reals, &mut faces, &mut numbers));
                 },
                 &mut || {
                     black_box(gablemadder::body(black_box(file), &mut words_of_body, &mut reals_of_body));
@@ -126,7 +126,8 @@ impl Subject {
     fn time_rounds(&mut self) -> f64 {
         let (measures, published) = (Measures::of(&self.patched), published::measures::Measures::of(&self.published));
         let (file, words, reals) = (&self.file, &mut self.words, &mut self.reals);
-        assert_eq!(gablemadder::rounds(file, words, reals), 0);
+        let (mut faces, mut numbers) = (vec![0; 3 * self.layout.polygons + 1], vec![0.0; 11 * self.layout.polygons]);
+        assert_eq!(gablemadder::round_list(file, words, reals, &mut faces, &mut numbers), 0);
         let (is_hole, kind) = (measures.rounds()[0].hole, words[self.layout.round_kind(0)]);
         assert_eq!(is_hole, kind == 3, "{}: a hole or not", self.name);
         let (mut words_of_body, mut reals_of_body) = (words.clone(), reals.clone());
@@ -136,7 +137,7 @@ impl Subject {
             1000,
             [
                 &mut || {
-                    black_box(gablemadder::rounds(black_box(file), words, reals));
+                    black_box(gablemadder::round_list(black_box(file), words, reals, &mut faces, &mut numbers));
                 },
                 &mut || {
                     black_box(gablemadder::body(black_box(file), &mut words_of_body, &mut reals_of_body));

@@ -48,7 +48,6 @@ pub struct Compare {
     random: Random,
     words: Scratch<u32>,
     reals: Scratch<f64>,
-    planes: Scratch<f64>,
     polygons: Scratch<u32>,
     times: Scratch<f64>,
     listed: Listed,
@@ -64,9 +63,30 @@ struct Found<'a> {
     open: Vec<bool>,
 }
 
-type Call = fn(&[u8], &mut [u32], &mut [f64]) -> u32;
+/// Its answer, and how many there are of what it lists.
+type Call = fn(&[u8], &mut [u32], &mut [f64]) -> (u32, usize);
 
-const CALLS: [(&str, Call); 2] = [("samples", gablemadder::samples), ("rounds", gablemadder::rounds)];
+const CALLS: [(&str, Call); 2] = [("sample_list", samples), ("round_list", rounds)];
+
+/// Cells enough for the list of a file with so many polygons as its trailer says.
+fn most(file: &[u8]) -> usize {
+    let count = |at: usize| u32::from_le_bytes(file[at..at + 4].try_into().unwrap()) as usize;
+    file.len().checked_sub(8).map_or(0, |at| count(at).min(4096))
+}
+
+fn samples(file: &[u8], words: &mut [u32], reals: &mut [f64]) -> (u32, usize) {
+    let (mut faces, mut numbers) = (vec![0; 2 * most(file) + 1], vec![0.0; 8 * most(file)]);
+    (gablemadder::sample_list(file, words, reals, &mut faces, &mut numbers), faces[0] as usize)
+}
+
+fn rounds(file: &[u8], words: &mut [u32], reals: &mut [f64]) -> (u32, usize) {
+    let (mut faces, mut numbers) = (vec![0; 3 * most(file) + 1], vec![0.0; 11 * most(file)]);
+    (gablemadder::round_list(file, words, reals, &mut faces, &mut numbers), faces[0] as usize)
+}
+
+fn body(file: &[u8], words: &mut [u32], reals: &mut [f64]) -> (u32, usize) {
+    (gablemadder::body(file, words, reals), 0)
+}
 
 impl Compare {
     pub fn new(seed: u64) -> Compare {
@@ -76,7 +96,6 @@ impl Compare {
             random: Random(seed),
             words: Scratch::new(),
             reals: Scratch::new(),
-            planes: Scratch::new(),
             polygons: Scratch::new(),
             times: Scratch::new(),
             listed: Listed::new(seed ^ 0x5eed),
@@ -105,12 +124,12 @@ impl Compare {
         let n = self.random.below(64) as usize;
         self.lend(n, n, n);
         for (name, call) in CALLS {
-            let ours = call(&self.lent, self.words.cells(), self.reals.cells());
+            let ours = call(&self.lent, self.words.cells(), self.reals.cells()).0;
             self.is_refusal(name, ours, number)?;
         }
-        self.lend_for_rays(n, n, n);
+        self.lend_for_rays(n, n);
         let rays = vec![0.5; 6 * n];
-        let ours = gablemadder::raycast(&self.lent, self.planes.cells(), &rays, self.polygons.cells(), self.times.cells());
+        let ours = gablemadder::raycast(&self.lent, self.words.cells(), self.reals.cells(), &rays, self.polygons.cells(), self.times.cells());
         self.is_refusal_of_rays("raycast", ours, number)?;
         self.listed.refused(&self.lent, number)
     }
@@ -122,11 +141,10 @@ impl Compare {
         self.reals.lend(reals, kinds[1], small, &mut self.random);
     }
 
-    fn lend_for_rays(&mut self, planes: usize, polygons: usize, times: usize) {
-        let kinds = [0; 3].map(|_| self.random.below(4) as usize);
-        self.planes.lend(planes, kinds[0], planes, &mut self.random);
-        self.polygons.lend(polygons, kinds[1], planes, &mut self.random);
-        self.times.lend(times, kinds[2], planes, &mut self.random);
+    fn lend_for_rays(&mut self, polygons: usize, times: usize) {
+        let kinds = [0; 2].map(|_| self.random.below(4) as usize);
+        self.polygons.lend(polygons, kinds[0], polygons, &mut self.random);
+        self.times.lend(times, kinds[1], polygons, &mut self.random);
     }
 
     /// This answer, and no cell changed.
@@ -135,7 +153,8 @@ impl Compare {
     }
 
     fn is_refusal_of_rays(&self, call: &str, ours: u32, number: u32) -> Result<(), String> {
-        let unchanged = self.planes.is_unchanged() && self.polygons.is_unchanged() && self.times.is_unchanged();
+        let scratch = self.words.is_unchanged() && self.reals.is_unchanged();
+        let unchanged = scratch && self.polygons.is_unchanged() && self.times.is_unchanged();
         is_refusal(call, ours, number, unchanged)
     }
 
@@ -143,7 +162,7 @@ impl Compare {
         let mesh = Mesh::read(file);
         let layout = Layout { polygons: mesh.polygons.len(), vertices: mesh.vertices() };
         let faces = measures.faces();
-        let body = self.call(("body", gablemadder::body), layout, faces)?;
+        let body = self.call(("body", body), layout, faces)?.0;
         let readings = self.readings(layout, faces, &body)?;
         let rounds = self.rounds(layout, faces, &body)?;
         let count = pick_count(&mut self.random, layout.polygons);
@@ -175,51 +194,55 @@ impl Compare {
         Ok(())
     }
 
-    /// The body's regions after a call that answers 0, with the cells that it needs or some more; past those that it needs none is changed.
-    fn call(&mut self, (name, call): (&str, Call), layout: Layout, faces: usize) -> Result<Regions, String> {
+    /// The body's regions after a call that answers 0, with the cells that it needs or some more, and how many it lists; past those cells none is
+    /// changed.
+    fn call(&mut self, (name, call): (&str, Call), layout: Layout, faces: usize) -> Result<(Regions, usize), String> {
         let (words, reals) = layout.lent();
         let more = [0; 2].map(|_| self.random.below(2) as usize * self.random.below(100) as usize);
         self.lend(words + more[0], reals + more[1], layout.vertices);
-        let ours = call(&self.lent, self.words.cells(), self.reals.cells());
+        let (ours, count) = call(&self.lent, self.words.cells(), self.reals.cells());
         if ours != 0 {
             return Err(format!("{name} {ours} for 0"));
         }
         if !self.words.is_unchanged_past(words) || !self.reals.is_unchanged_past(reals) {
             return Err(format!("{name}: cells past the needed ones are changed"));
         }
-        Ok(Regions::read(layout, faces, self.words.cells(), self.reals.cells()))
+        Ok((Regions::read(layout, faces, self.words.cells(), self.reals.cells()), count))
     }
 
     fn readings(&mut self, layout: Layout, faces: usize, body: &Regions) -> Result<Vec<Reading>, String> {
-        let after = self.call(CALLS[0], layout, faces)?;
+        let (after, count) = self.call(CALLS[0], layout, faces)?;
         after.compare(body).map_err(|place| format!("the body after the readings: {place}"))?;
-        found::readings(layout, self.words.cells(), self.reals.cells())
+        found::readings(layout, count, self.words.cells(), self.reals.cells())
     }
 
     fn rounds(&mut self, layout: Layout, faces: usize, body: &Regions) -> Result<Vec<Round>, String> {
-        let after = self.call(CALLS[1], layout, faces)?;
+        let (after, count) = self.call(CALLS[1], layout, faces)?;
         after.compare(body).map_err(|place| format!("the body after the rounds: {place}"))?;
-        Ok(found::rounds(layout, faces, self.words.cells(), self.reals.cells()))
+        let list = found::rounds(layout, faces, self.words.cells(), self.reals.cells());
+        same("number of rounds", &[count], &[list.len()])?;
+        Ok(list)
     }
 
     /// What the rays hit; a few numbers that are no whole ray follow them now and then.
     fn hits(&mut self, layout: Layout, body: &Regions, rays: &[f64]) -> Result<Vec<found::Hit>, String> {
-        let (planes, count) = (layout.lent_for_planes(), rays.len() / 6);
-        let more = [0; 3].map(|_| self.random.below(2) as usize * self.random.below(10) as usize);
-        self.lend_for_rays(planes + more[0], count + more[1], count + more[2]);
+        let ((words, reals), count) = (layout.lent(), rays.len() / 6);
+        let more = [0; 4].map(|_| self.random.below(2) as usize * self.random.below(10) as usize);
+        self.lend(words + more[0], reals + more[1], layout.vertices);
+        self.lend_for_rays(count + more[2], count + more[3]);
         let mut lent = rays.to_vec();
         lent.resize(rays.len() + self.random.below(6) as usize, 1.0);
-        let ours = gablemadder::raycast(&self.lent, self.planes.cells(), &lent, self.polygons.cells(), self.times.cells());
+        let ours = gablemadder::raycast(&self.lent, self.words.cells(), self.reals.cells(), &lent, self.polygons.cells(), self.times.cells());
         if ours != 0 {
             return Err(format!("raycast {ours} for 0"));
         }
-        let unchanged = self.planes.is_unchanged_past(planes) && self.polygons.is_unchanged_past(count) && self.times.is_unchanged_past(count);
+        let scratch = self.words.is_unchanged_past(words) && self.reals.is_unchanged_past(reals);
+        let unchanged = scratch && self.polygons.is_unchanged_past(count) && self.times.is_unchanged_past(count);
         if !unchanged || !same_bits(rays, &lent) {
             return Err("raycast: cells past the needed ones, or the rays, are changed".into());
         }
-        let cells = self.planes.cells();
-        let kept: Vec<[u64; 4]> = (0..layout.polygons).map(|p| [0, 1, 2, 3].map(|k| cells[layout.plane(p) + k].to_bits())).collect();
-        same("plane of the rays", &kept, &body.planes)?;
+        let after = Regions::read(layout, body.firsts.len(), self.words.cells(), self.reals.cells());
+        after.compare(body).map_err(|place| format!("the body after raycast: {place}"))?;
         (0..count).map(|k| found::hit(layout, self.polygons.cells(), self.times.cells(), k)).collect()
     }
 
@@ -262,28 +285,31 @@ impl Compare {
         let (words, reals) = layout.lent();
         self.lend(words, reals, 0);
         for (name, call) in CALLS {
-            let ours = call(&self.lent, self.words.one_short(), self.reals.cells());
+            let ours = call(&self.lent, self.words.one_short(), self.reals.cells()).0;
             self.is_refusal(&format!("{name}, a u32 too few,"), ours, 10)?;
-            let ours = call(&self.lent, self.words.cells(), self.reals.one_short());
+            let ours = call(&self.lent, self.words.cells(), self.reals.one_short()).0;
             self.is_refusal(&format!("{name}, an f64 too few,"), ours, 10)?;
-            let ours = call(&self.lent, &mut [], &mut []);
+            let ours = call(&self.lent, &mut [], &mut []).0;
             self.is_refusal(&format!("{name}, nothing lent,"), ours, 10)?;
         }
         Ok(())
     }
 
     fn too_short_for_rays(&mut self, layout: Layout, rays: &[f64]) -> Result<(), String> {
-        let (planes, count) = (layout.lent_for_planes(), rays.len() / 6);
-        self.lend_for_rays(planes, count, count);
-        if planes > 0 {
-            let ours = gablemadder::raycast(&self.lent, self.planes.one_short(), rays, self.polygons.cells(), self.times.cells());
-            self.is_refusal_of_rays("raycast, an f64 too few for planes,", ours, 10)?;
-        }
+        let ((words, reals), count) = (layout.lent(), rays.len() / 6);
+        self.lend(words, reals, 0);
+        self.lend_for_rays(count, count);
+        let cast = |words: &mut [u32], reals: &mut [f64], polygons: &mut [u32], times: &mut [f64]| gablemadder::raycast(&self.lent, words, reals, rays, polygons, times);
+        let mut answers = vec![
+            ("a u32 of the scratch", cast(self.words.one_short(), self.reals.cells(), self.polygons.cells(), self.times.cells())),
+            ("an f64 of the scratch", cast(self.words.cells(), self.reals.one_short(), self.polygons.cells(), self.times.cells())),
+        ];
         if count > 0 {
-            let ours = gablemadder::raycast(&self.lent, self.planes.cells(), rays, self.polygons.one_short(), self.times.cells());
-            self.is_refusal_of_rays("raycast, a u32 too few,", ours, 10)?;
-            let ours = gablemadder::raycast(&self.lent, self.planes.cells(), rays, self.polygons.cells(), self.times.one_short());
-            self.is_refusal_of_rays("raycast, an f64 too few for times,", ours, 10)?;
+            answers.push(("a u32", cast(self.words.cells(), self.reals.cells(), self.polygons.one_short(), self.times.cells())));
+            answers.push(("an f64", cast(self.words.cells(), self.reals.cells(), self.polygons.cells(), self.times.one_short())));
+        }
+        for (what, ours) in answers {
+            self.is_refusal_of_rays(&format!("raycast, {what} too few,"), ours, 10)?;
         }
         Ok(())
     }

@@ -27,8 +27,7 @@ pub struct Round {
     pub centre: Bits,
 }
 
-pub fn readings(layout: Layout, words: &[u32], reals: &[f64]) -> Result<Vec<Reading>, String> {
-    let count = if layout.polygons > 0 { words[layout.readings()] as usize } else { 0 };
+pub fn readings(layout: Layout, count: usize, words: &[u32], reals: &[f64]) -> Result<Vec<Reading>, String> {
     if count > layout.polygons {
         return Err(format!("{count} readings of {} polygons", layout.polygons));
     }

@@ -102,7 +102,7 @@ impl Listed {
             self.is_refusal(list.name, ours, number)?;
         }
         let rays = vec![0.5; 6 * n];
-        let ours = gablemadder::open_towards(file, self.numbers.cells(), &rays, self.cells.cells());
+        let ours = gablemadder::open_towards(file, self.words.cells(), self.reals.cells(), &rays, self.cells.cells());
         self.is_refusal("open_towards", ours, number)
     }
 
@@ -138,9 +138,9 @@ impl Listed {
 
     pub fn samples(&mut self, file: &[u8], kept: &Kept) -> Result<Vec<Sample>, String> {
         self.call(&SAMPLES, file, kept)?;
-        let scratch = found::readings(kept.layout, self.words.cells(), self.reals.cells())?;
-        same("reading in the scratch of the list", &scratch, kept.readings)?;
         let n = self.count(&SAMPLES, kept.layout.polygons)?;
+        let scratch = found::readings(kept.layout, n, self.words.cells(), self.reals.cells())?;
+        same("reading in the scratch of the list", &scratch, kept.readings)?;
         let (cells, numbers) = (self.cells.cells(), self.numbers.cells());
         let sample = |k: usize| {
             let bits = |i: usize| numbers[8 * k + i].to_bits();
@@ -180,7 +180,7 @@ impl Listed {
     /// Its bits.
     pub fn rough(&mut self, file: &[u8], kept: &Kept) -> Result<u64, String> {
         self.call(&ROUGH, file, kept)?;
-        let scratch = found::readings(kept.layout, self.words.cells(), self.reals.cells())?;
+        let scratch = found::readings(kept.layout, kept.readings.len(), self.words.cells(), self.reals.cells())?;
         same("reading in the scratch of the median", &scratch, kept.readings)?;
         if !self.cells.is_unchanged() || !self.numbers.is_unchanged_past(1) {
             return Err("rough: cells past the first are changed".into());
@@ -190,19 +190,19 @@ impl Listed {
 
     /// Of each ray whether it leaves the part.
     pub fn open(&mut self, file: &[u8], kept: &Kept, rays: &[f64]) -> Result<Vec<bool>, String> {
-        let (planes, count) = (kept.layout.lent_for_planes(), rays.len() / 6);
-        let more = [0; 2].map(|_| self.random.below(2) as usize * self.random.below(10) as usize);
-        self.lend((0, 0), (count + more[0], planes + more[1]), kept.layout.vertices);
-        let ours = gablemadder::open_towards(file, self.numbers.cells(), rays, self.cells.cells());
+        let (scratch, count) = (kept.layout.lent(), rays.len() / 6);
+        let more = [0; 3].map(|_| self.random.below(2) as usize * self.random.below(10) as usize);
+        self.lend((scratch.0 + more[0], scratch.1 + more[1]), (count + more[2], 0), kept.layout.vertices);
+        let ours = gablemadder::open_towards(file, self.words.cells(), self.reals.cells(), rays, self.cells.cells());
         if ours != 0 {
             return Err(format!("open_towards {ours} for 0"));
         }
-        if !self.numbers.is_unchanged_past(planes) || !self.cells.is_unchanged_past(count) {
+        let past = self.words.is_unchanged_past(scratch.0) && self.reals.is_unchanged_past(scratch.1);
+        if !past || !self.cells.is_unchanged_past(count) {
             return Err("open_towards: cells past the needed ones are changed".into());
         }
-        let cells = self.numbers.cells();
-        let put: Vec<[u64; 4]> = (0..kept.layout.polygons).map(|p| [0, 1, 2, 3].map(|k| cells[kept.layout.plane(p) + k].to_bits())).collect();
-        same("plane of openness", &put, &kept.body.planes)?;
+        let body = Regions::read(kept.layout, kept.body.firsts.len(), self.words.cells(), self.reals.cells());
+        body.compare(kept.body).map_err(|place| format!("the body after open_towards: {place}"))?;
         match self.cells.cells()[..count].iter().find(|c| **c > 1) {
             Some(c) => Err(format!("open_towards says {c}")),
             None => Ok(self.cells.cells()[..count].iter().map(|c| *c == 1).collect()),
@@ -226,15 +226,15 @@ impl Listed {
             }
             answers.into_iter().try_for_each(|ours| self.is_refusal(&format!("{}, a cell too few,", list.name), ours, 10))?;
         }
-        let (planes, count) = (layout.lent_for_planes(), rays.len() / 6);
-        self.lend((0, 0), (count, planes), 0);
-        let (cells, numbers) = (&mut self.cells, &mut self.numbers);
-        let mut answers = Vec::new();
-        if planes > 0 {
-            answers.push(gablemadder::open_towards(file, numbers.one_short(), rays, cells.cells()));
-        }
+        let count = rays.len() / 6;
+        self.lend(layout.lent(), (count, 0), 0);
+        let (words, reals, cells) = (&mut self.words, &mut self.reals, &mut self.cells);
+        let mut answers = vec![
+            gablemadder::open_towards(file, words.one_short(), reals.cells(), rays, cells.cells()),
+            gablemadder::open_towards(file, words.cells(), reals.one_short(), rays, cells.cells()),
+        ];
         if count > 0 {
-            answers.push(gablemadder::open_towards(file, numbers.cells(), rays, cells.one_short()));
+            answers.push(gablemadder::open_towards(file, words.cells(), reals.cells(), rays, cells.one_short()));
         }
         answers.into_iter().try_for_each(|ours| self.is_refusal("open_towards, a cell too few,", ours, 10))
     }
