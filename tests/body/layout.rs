@@ -2,11 +2,13 @@
 //! here and nowhere else.
 #![allow(dead_code)]
 
-/// Cells of a side; a side has the number of the vertex that it begins at.
+/// Cells lent for a side; a side has the number of the vertex that it begins at.
 pub const CELLS: usize = 8;
-const END: usize = 3;
-const OWNER: usize = 4;
-const PAIR: usize = 7;
+/// Those that hold something at return, one side after the other in front.
+const KEPT: usize = 3;
+const END: usize = 0;
+const OWNER: usize = 1;
+const PAIR: usize = 2;
 
 #[derive(Clone, Copy)]
 pub struct Layout {
@@ -111,7 +113,7 @@ pub struct Side {
 
 impl Side {
     pub fn read(words: &[u32], sides: usize, s: usize) -> Side {
-        let at = sides + CELLS * s;
+        let at = sides + KEPT * s;
         Side { end: words[at + END], owner: words[at + OWNER], pair: words[at + PAIR] }
     }
 }

@@ -51,7 +51,7 @@ module _ (s : List ℕ) (at : Regions) (words words₁ words₂ : List ℕ) (rea
             (outside-wide nan _ _ 0 (at .rounds) reals₁ reals₂ (omega arith) (omega arith) r′);
       }
 
-  pub rounds-put : Outside 0 (at .kinds) (at .spare) words₁ words₂ → Outside nan (at .rounds) (at .free) reals₁ reals₂ → Rounds (partOf s) at words₂ reals₂ →
+  pub rounds-put : Outside 0 (at .kinds) (at .ranks) words₁ words₂ → Outside nan (at .rounds) (at .free) reals₁ reals₂ → Rounds (partOf s) at words₂ reals₂ →
       RoundsPut s words words₂ reals reals₂
   rounds-put w′ r′ rounds =
       let laid = standing .placed .laid in
@@ -60,8 +60,8 @@ module _ (s : List ℕ) (at : Regions) (words words₁ words₂ : List ℕ) (rea
         standing = standing;
         rounds = rounds;
         words-kept =
-            outside-then 0 0 (at .spare) words words₁ words₂ (outside-wide 0 _ _ 0 (at .spare) words words₁ (omega arith) (omega (arith, laid)) w)
-            (outside-wide 0 _ _ 0 (at .spare) words₁ words₂ (omega arith) (omega arith) w′);
+            outside-then 0 0 (at .ranks) words words₁ words₂ (outside-wide 0 _ _ 0 (at .ranks) words words₁ (omega arith) (omega (arith, laid)) w)
+            (outside-wide 0 _ _ 0 (at .ranks) words₁ words₂ (omega arith) (omega arith) w′);
         reals-kept =
             outside-then nan 0 (at .free) reals reals₁ reals₂ (outside-wide nan _ _ 0 (at .free) reals reals₁ (omega arith) (omega (arith, laid)) r)
             (outside-wide nan _ _ 0 (at .free) reals₁ reals₂ (omega arith) (omega arith) r′);

@@ -26,7 +26,7 @@ pub record RoundsPut (s words words′ : List ℕ) (reals reals′ : List Float)
   pub at : Regions
   pub standing : Standing s at words′ reals′
   pub rounds : Rounds (partOf s) at words′ reals′
-  pub words-kept : Outside 0 0 (at .spare) words words′
+  pub words-kept : Outside 0 0 (at .ranks) words words′
   pub reals-kept : Outside nan 0 (at .free) reals reals′
   -- the regions of the readings, which stand between those of the body and of the rounds, are as they were
   pub words-between : part (at .readings) (at .kinds) words′ ≡ part (at .readings) (at .kinds) words

@@ -56,10 +56,10 @@ module _ (s : List ℕ) (at : Regions) (words : List ℕ) (reals : List Float) (
   past reals′ o = outside-wide nan _ _ (at .falling) (at .free) reals reals′ (omega (arith, h .placed .laid)) (omega arith) o
 
   -- after rounds are put the body still stands
-  pub still : (words′ : List ℕ) (reals′ : List Float) → Outside 0 (at .kinds) (at .spare) words words′ → Outside nan (at .rounds) (at .free) reals reals′ → Standing s at words′ reals′
+  pub still : (words′ : List ℕ) (reals′ : List Float) → Outside 0 (at .kinds) (at .ranks) words words′ → Outside nan (at .rounds) (at .free) reals reals′ → Standing s at words′ reals′
   still words′ reals′ w o =
-      standing-kept s at (at .spare) (at .free) words words′ reals reals′ h
-      (outside-wide 0 _ _ (at .readings) (at .spare) words words′ (omega (arith, h .placed .laid)) (omega arith) w) (past reals′ o)
+      standing-kept s at (at .ranks) (at .free) words words′ reals reals′ h
+      (outside-wide 0 _ _ (at .readings) (at .ranks) words words′ (omega (arith, h .placed .laid)) (omega arith) w) (past reals′ o)
 
   pub faces-lent : FaceNumbers (partOf s) (partOf s .polygons) (part (at .faces) (at .readings) words)
   faces-lent = h .the-words .faces .numbers
@@ -154,12 +154,12 @@ face-none t at f s laid low room flat = record {
 pub step-put : (t : Part) (at : Regions) (f kind : ℕ) (words : List ℕ) (s s′ : List Float) → Laid at → at .words ≤ length words → f < at .polygons → FacePut t at f s s′ kind →
     StepPut t at f words (set words (at .kinds + f) kind) s s′
 step-put t at f kind words s s′ laid room low h =
-    let long = part-length (at .kinds) (at .spare) words (omega (arith, room, laid)) in
+    let long = part-length (at .kinds) (at .ranks) words (omega (arith, room, laid)) in
     record {
       kinds = λ kept.
-          subst (KeptKinds t (f + 1)) (sym (part-set (at .kinds) (at .spare) words f kind (omega (arith, low, laid)) (omega (arith, room, laid))))
-          (kinds-more t f (part (at .kinds) (at .spare) words) kind (omega (arith, long, low, laid)) (h .kind) kept);
+          subst (KeptKinds t (f + 1)) (sym (part-set (at .kinds) (at .ranks) words f kind (omega (arith, low, laid)) (omega (arith, room, laid))))
+          (kinds-more t f (part (at .kinds) (at .ranks) words) kind (omega (arith, long, low, laid)) (h .kind) kept);
       measures = h .measures;
-      words-kept = outside-set 0 (at .kinds) (at .spare) words (at .kinds + f) kind (omega arith) (omega (arith, low, laid));
+      words-kept = outside-set 0 (at .kinds) (at .ranks) words (at .kinds + f) kind (omega arith) (omega (arith, low, laid));
       reals-kept = h .kept;
     }

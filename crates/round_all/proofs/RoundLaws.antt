@@ -54,7 +54,7 @@ kind-round t f h = go (isRound t f) refl
 -- ---- the places of face f
 module _ (t : Part) (at : Regions) (words : List ℕ) (reals : List Float) (f : ℕ) (laid : Laid at) (kept : Rounds t at words reals) (low : f < facesOf t) where
   pub kind-at : f < at .polygons → getD words (at .kinds + f) 0 ≡ roundKind t f
-  kind-at below = sym (part-place (at .kinds) (at .spare) words 0 f (omega (arith, below, laid))) ∙ kept .kinds .each f low
+  kind-at below = sym (part-place (at .kinds) (at .ranks) words 0 f (omega (arith, below, laid))) ∙ kept .kinds .each f low
 
   pub measure-kept : isRound t f ≡ true → measureAt (part (at .rounds) (at .directions) reals) f ≡ faceMeasure t f
   measure-kept round = kept .measures .each f low round

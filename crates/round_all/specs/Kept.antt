@@ -28,5 +28,5 @@ pub record KeptMeasures (t : Part) (n : ℕ) (l : List Float) : Type 0 where
 
 -- the rounds stand in the scratch
 pub record Rounds (t : Part) (at : Regions) (words : List ℕ) (reals : List Float) : Type 0 where
-  pub kinds : KeptKinds t (facesOf t) (part (at .kinds) (at .spare) words)
+  pub kinds : KeptKinds t (facesOf t) (part (at .kinds) (at .ranks) words)
   pub measures : KeptMeasures t (facesOf t) (part (at .rounds) (at .directions) reals)

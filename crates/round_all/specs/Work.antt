@@ -29,7 +29,7 @@ pub record FacePut (t : Part) (at : Regions) (f : ℕ) (reals reals′ : List Fl
 
 -- and its kind put as well
 pub record StepPut (t : Part) (at : Regions) (f : ℕ) (words words′ : List ℕ) (reals reals′ : List Float) : Type 0 where
-  pub kinds : KeptKinds t f (part (at .kinds) (at .spare) words) → KeptKinds t (f + 1) (part (at .kinds) (at .spare) words′)
+  pub kinds : KeptKinds t f (part (at .kinds) (at .ranks) words) → KeptKinds t (f + 1) (part (at .kinds) (at .ranks) words′)
   pub measures : KeptMeasures t f (part (at .rounds) (at .directions) reals) → KeptMeasures t (f + 1) (part (at .rounds) (at .directions) reals′)
-  pub words-kept : Outside 0 (at .kinds) (at .spare) words words′
+  pub words-kept : Outside 0 (at .kinds) (at .ranks) words words′
   pub reals-kept : Outside nan (at .rounds) (at .free) reals reals′

@@ -156,7 +156,7 @@ fn put_round(file: &[u8], words: &mut [u32], reals: &mut [f64], at: Regions, f: 
 pub fn put_rounds(file: &[u8], words: &mut [u32], reals: &mut [f64], at: Regions, n: usize)
     requires { ⌜ Standing (now file) at (now words) (now reals) ⌝ ∗ ⌜ n ≡ facesOf (partOf (now file)) ⌝ }
     ensures { λ r. ⌜ Rounds (partOf (now (file .entry))) at (now (words .exit)) (now (reals .exit)) ⌝ ∗ ⌜ Standing (now (file .entry)) at (now (words .exit)) (now (reals .exit)) ⌝ }
-    ensures { λ r. ⌜ Outside 0 (at .kinds) (at .spare) (now (words .entry)) (now (words .exit)) ⌝ ∗ ⌜ Outside nan (at .rounds) (at .free) (now (reals .entry)) (now (reals .exit)) ⌝ }
+    ensures { λ r. ⌜ Outside 0 (at .kinds) (at .ranks) (now (words .entry)) (now (words .exit)) ⌝ ∗ ⌜ Outside nan (at .rounds) (at .free) (now (reals .entry)) (now (reals .exit)) ⌝ }
 {
     let mut f: usize = 0;
     while f < n {

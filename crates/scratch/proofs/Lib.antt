@@ -4,6 +4,7 @@
 -- StandingLaws
 --   placed-polygons, placed-vertices    the counts of the part
 --   standing-kept                       the body still stands after changes past its regions
+--   standing-still                      and after those that `BodyKept` allows: body-same, body-then, body-past, body-sorted
 -- WordsLaws
 --   face-at, first-at                   the face of a polygon, the first polygon of a face
 -- RefusalLaws

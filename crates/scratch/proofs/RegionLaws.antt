@@ -9,6 +9,9 @@ pub only-regions : (at : Regions) → Laid at → at ≡ regionsOf (at .polygons
 unfolding regionsOf
 only-regions at laid = rw (
   is-sides,
+  is-items,
+  is-sorted,
+  is-chain,
   is-work,
   is-faces,
   is-firsts,
@@ -16,7 +19,7 @@ only-regions at laid = rw (
   is-hits,
   is-order,
   is-kinds,
-  is-spare,
+  is-ranks,
   is-words,
   is-areas,
   is-totals,
@@ -32,6 +35,15 @@ only-regions at laid = rw (
   where
     is-sides : at .sides ≡ at .polygons
     is-sides = omega (arith, laid)
+
+    is-items : at .items ≡ at .polygons + 3 * at .vertices
+    is-items = omega (arith, laid)
+
+    is-sorted : at .sorted ≡ at .polygons + 4 * at .vertices
+    is-sorted = omega (arith, laid)
+
+    is-chain : at .chain ≡ at .polygons + 6 * at .vertices
+    is-chain = omega (arith, laid)
 
     is-work : at .work ≡ at .polygons + 6 * at .vertices
     is-work = omega (arith, laid)
@@ -54,8 +66,8 @@ only-regions at laid = rw (
     is-kinds : at .kinds ≡ 6 * at .polygons + 8 * at .vertices + 1024
     is-kinds = omega (arith, laid)
 
-    is-spare : at .spare ≡ 7 * at .polygons + 8 * at .vertices + 1024
-    is-spare = omega (arith, laid)
+    is-ranks : at .ranks ≡ 7 * at .polygons + 8 * at .vertices + 1024
+    is-ranks = omega (arith, laid)
 
     is-words : at .words ≡ 8 * at .polygons + 8 * at .vertices + 1024
     is-words = omega (arith, laid)

@@ -1,11 +1,11 @@
 -- The body stands in the scratch, and still does after changes past its regions; what a stage above reads of it.
-use mathlib.Core.Path.{_≡_, sym, _∙_, subst}
+use mathlib.Core.Path.{_≡_, refl, sym, _∙_, subst}
 use mathlib.Core.List.{List}
-use Prim.Native.Nat.{ℕ, _≤_}
+use Prim.Native.Nat.{ℕ, _≤_, _<_}
 use native.Mathlib.Omega.{arith}
 use lib.Ieee.{Float, nan}
 use Rattle.list_laws.specs.Region.{part, Outside}
-use Rattle.list_laws.proofs.Outside.{outside-part}
+use Rattle.list_laws.proofs.Outside.{part-kept, outside-part}
 use Rattle.file_part.specs.Part.{partOf}
 use Rattle.file_part.proofs.PartLaws.{part-vertices, part-polygons}
 use Rattle.solid_segments.specs.Sides.{SharedSegments}
@@ -13,7 +13,8 @@ use Rattle.solid_bodies.proofs.BodyLaws.{labels-as}
 use Rattle.solid_volumes.specs.Volume.{Volumes}
 use Rattle.solid_faces.specs.Kept.{Faces, KeptPlanes, KeptAreas, FaceAreas}
 use Rattle.scratch.specs.declared.regions.Regions.{Regions}
-use Rattle.scratch.specs.Standing.{Placed, Words, Reals, Standing}
+use Rattle.scratch.specs.Regions.{Laid}
+use Rattle.scratch.specs.Standing.{Placed, Words, Reals, Standing, BodyKept}
 
 -- the counts of the part
 pub placed-polygons : (s : List ℕ) (at : Regions) → Placed s at → at .polygons ≡ partOf s .polygons
@@ -22,24 +23,42 @@ placed-polygons s at h = h .polygons ∙ sym (part-polygons s)
 pub placed-vertices : (s : List ℕ) (at : Regions) → Placed s at → at .vertices ≡ partOf s .vertices
 placed-vertices s at h = h .vertices ∙ sym (part-vertices s)
 
--- changes past the body's regions leave it as it was
-module _ (s : List ℕ) (at : Regions) (a b : ℕ) (words words′ : List ℕ) (reals reals′ : List Float) (h : Standing s at words reals)
-    (w : Outside 0 (at .readings) a words words′) (r : Outside nan (at .falling) b reals reals′) where
-  pub words-kept : Words (partOf s) at words′
-  words-kept =
+-- ---- which changes of the words keep the body
+module _ (at : Regions) (laid : Laid at) where
+  pub body-same : (l : List ℕ) → BodyKept at l l
+  body-same l = record { front = λ i h. refl; faces = λ i h k. refl; long = refl }
+
+  pub body-then : (l m n : List ℕ) → BodyKept at l m → BodyKept at m n → BodyKept at l n
+  body-then l m n a b =
+      record { front = λ i h. b .front i h ∙ a .front i h; faces = λ i h k. b .faces i h k ∙ a .faces i h k; long = b .long ∙ a .long }
+
+  -- those past it
+  pub body-past : (e : ℕ) (l m : List ℕ) → Outside 0 (at .readings) e l m → BodyKept at l m
+  body-past e l m h =
+      record { front = λ i k. h .below i (omega (arith, k, laid)); faces = λ i k j. h .below i j; long = h .long }
+
+  -- those of the sides in order
+  pub body-sorted : (a e : ℕ) (l m : List ℕ) → at .items ≤ a → e ≤ at .faces → Outside 0 a e l m → BodyKept at l m
+  body-sorted a e l m low high h =
+      record { front = λ i k. h .below i (omega (arith, k, low)); faces = λ i k j. h .above i (omega (arith, k, high)); long = h .long }
+
+-- ---- the body still stands after them
+module _ (s : List ℕ) (at : Regions) (b : ℕ) (words words′ : List ℕ) (reals reals′ : List Float) (h : Standing s at words reals)
+    (w : BodyKept at words words′) (r : Outside nan (at .falling) b reals reals′) where
+  words-still : Words (partOf s) at words′
+  words-still =
       let laid = h .placed .laid in
       record {
-        labels = labels-as (partOf s) words words′ (h .the-words .labels) (λ q l. w .below q (omega (arith, l, laid, placed-polygons s at (h .placed))))
+        labels = labels-as (partOf s) words words′ (h .the-words .labels) (λ q l. w .front q (omega (arith, l, laid, placed-polygons s at (h .placed))))
             (omega (arith, h .words-room, laid, placed-polygons s at (h .placed), w .long));
-        sides = subst (SharedSegments (partOf s)) (sym (same (at .sides) (at .faces) (omega (arith, laid)))) (h .the-words .sides);
-        faces = subst (Faces (partOf s)) (sym (same (at .faces) (at .readings) (omega arith))) (h .the-words .faces);
+        sides = subst (SharedSegments (partOf s))
+            (sym (part-kept 0 words words′ (at .sides) (at .items) (w .long) (omega (arith, h .words-room, laid)) (λ i k l. w .front i l))) (h .the-words .sides);
+        faces = subst (Faces (partOf s))
+            (sym (part-kept 0 words words′ (at .faces) (at .readings) (w .long) (omega (arith, h .words-room, laid)) (w .faces))) (h .the-words .faces);
       }
-    where
-      same : (c f : ℕ) → f ≤ at .readings → part c f words′ ≡ part c f words
-      same c f low = outside-part 0 (at .readings) a c f words words′ low (omega (arith, low, h .words-room, h .placed .laid)) w
 
-  pub reals-kept : Reals (partOf s) at reals′
-  reals-kept =
+  reals-still : Reals (partOf s) at reals′
+  reals-still =
       let laid = h .placed .laid in
       record {
         planes = subst (KeptPlanes (partOf s) (at .polygons)) (sym (same 0 (at .areas) (omega (arith, laid)))) (h .the-reals .planes);
@@ -51,12 +70,18 @@ module _ (s : List ℕ) (at : Regions) (a b : ℕ) (words words′ : List ℕ) (
       same : (c f : ℕ) → f ≤ at .falling → part c f reals′ ≡ part c f reals
       same c f low = outside-part nan (at .falling) b c f reals reals′ low (omega (arith, low, h .reals-room, h .placed .laid)) r
 
-  pub standing-kept : Standing s at words′ reals′
-  standing-kept =
+  pub standing-still : Standing s at words′ reals′
+  standing-still =
       record {
         placed = h .placed;
         words-room = omega (arith, h .words-room, w .long);
         reals-room = omega (arith, h .reals-room, r .long);
-        the-words = words-kept;
-        the-reals = reals-kept;
+        the-words = words-still;
+        the-reals = reals-still;
       }
+
+-- changes past the body's regions
+pub standing-kept : (s : List ℕ) (at : Regions) (a b : ℕ) (words words′ : List ℕ) (reals reals′ : List Float) → Standing s at words reals
+    → Outside 0 (at .readings) a words words′ → Outside nan (at .falling) b reals reals′ → Standing s at words′ reals′
+standing-kept s at a b words words′ reals reals′ h w r =
+    standing-still s at b words words′ reals reals′ h (body-past at (h .placed .laid) a words words′ w) r

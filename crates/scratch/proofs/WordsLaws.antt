@@ -4,13 +4,15 @@ use mathlib.Core.List.{List}
 use Prim.Native.Nat.{ℕ, _+_, _-_, _≤_, _<_}
 use native.Mathlib.Omega.{arith}
 use native.Mathlib.Nat.{sub-zero, zero-add}
-use lib.ListN.{length, getD}
+use lib.ListN.{length, getD, take, drop}
+use lib.Seq.{take-take}
 use borrow.Rule.Slice.PartMut.{putMid}
 use Rattle.list_laws.specs.Region.{part, Outside}
 use Rattle.list_laws.proofs.Regions.{part-length, put-length, part-put, part-before, part-place, put-before, put-inside}
 use Rattle.list_laws.proofs.Outside.{outside-then, outside-wide, outside-put}
 use Rattle.file_part.specs.Part.{Part}
 use Rattle.solid_segments.specs.Sides.{SharedSegments}
+use Rattle.solid_segments.proofs.SharedLaws.{shared-front}
 use Rattle.solid_bodies.specs.Body.{Labels, Bodies}
 use Rattle.solid_bodies.proofs.BodyLaws.{labels-as}
 use Rattle.solid_faces.specs.Faces.{facesOf, faceNumber, firstPolygon}
@@ -51,14 +53,19 @@ module _ (at : Regions) (laid : Laid at) (s x y z : List ℕ) (room : at .words 
       part-before (at .faces) (at .readings - at .faces) (at .sides) (at .faces) second z (omega (arith, room, laid, second-length)) (omega (arith, laid)) (omega arith)
       ∙ part-put (at .sides) (at .faces) first y (omega (arith, room, laid, first-length)) ly
 
+  front-kept : part (at .sides) (at .items) third ≡ take (at .items - at .sides) y
+  front-kept =
+      sym (take-take (at .items - at .sides) (at .faces - at .sides) (drop (at .sides) third) (omega (arith, laid)))
+      ∙ ap (take (at .items - at .sides)) sides-kept
+
   faces-kept : part (at .faces) (at .readings) third ≡ z
   faces-kept = part-put (at .faces) (at .readings) second z (omega (arith, room, laid, second-length)) lz
 
-  all-words : (t : Part) → at .polygons ≡ t .polygons → Bodies t x → SharedSegments t y → Faces t z → Words t at third
-  all-words t e b c f =
+  all-words : (t : Part) → at .polygons ≡ t .polygons → at .vertices ≡ t .vertices → Bodies t x → SharedSegments t y → Faces t z → Words t at third
+  all-words t e v b c f =
       record {
         labels = labels-as t x third (b .labels) (λ q l. label-kept q (omega (arith, l, e, laid))) (omega (arith, room, e, laid, third-length));
-        sides = subst (SharedSegments t) (sym sides-kept) c;
+        sides = subst (SharedSegments t) (sym front-kept) (shared-front t y (at .items - at .sides) (omega (arith, v, laid)) c);
         faces = subst (Faces t) (sym faces-kept) f;
       }
 
@@ -69,7 +76,7 @@ module _ (at : Regions) (laid : Laid at) (s x y z : List ℕ) (room : at .words 
       (outside-wide 0 _ _ 0 (at .readings) first second (omega arith) (omega (arith, laid)) (outside-put 0 (at .sides) (at .faces) first y (omega (arith, laid)) (omega (arith, room, laid, first-length)) ly))
       (outside-wide 0 _ _ 0 (at .readings) second third (omega arith) (omega arith) (outside-put 0 (at .faces) (at .readings) second z (omega (arith, laid)) (omega (arith, room, laid, second-length)) lz)))
 
-  pub words-put : ((t : Part) → at .polygons ≡ t .polygons → Bodies t x → SharedSegments t y → Faces t z → Words t at third) × Outside 0 0 (at .readings) s third
+  pub words-put : ((t : Part) → at .polygons ≡ t .polygons → at .vertices ≡ t .vertices → Bodies t x → SharedSegments t y → Faces t z → Words t at third) × Outside 0 0 (at .readings) s third
   words-put = (all-words, outside)
 
 -- ---- single cells

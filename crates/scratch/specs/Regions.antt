@@ -16,23 +16,29 @@ pub record Laid (at : Regions) : Type 0 where
   pub few : at .polygons ≤ 4096
   pub short : at .vertices ≤ 16384
   -- ---- u32: from 0 on the body of each polygon, by its lowest polygon
-  -- eight cells a side; while the bodies are found their work stands here
+  -- three cells a side; while the bodies are found their work stands here, to before `work`, and while the sides are paired eight cells a side
   pub sides : at .sides ≡ at .polygons
   pub work : at .work ≡ at .sides + 6 * at .vertices
+  -- sides that are put in order, by their places before that ..
+  pub items : at .items ≡ at .sides + 3 * at .vertices
+  -- .. and the places in order, with as many cells of work
+  pub sorted : at .sorted ≡ at .items + at .vertices
+  -- not used yet
+  pub chain : at .chain ≡ at .sorted + 2 * at .vertices
   -- the face of each polygon
-  pub faces : at .faces ≡ at .sides + 8 * at .vertices
+  pub faces : at .faces ≡ at .chain + 2 * at .vertices
   -- the first polygon of each face
   pub firsts : at .firsts ≡ at .faces + at .polygons
   -- the polygon that each thickness reading starts from
   pub readings : at .readings ≡ at .firsts + 1024
   -- the polygon that each reading's ray hits
   pub hits : at .hits ≡ at .readings + at .polygons
-  -- the work of sorting: a face's polygons by falling area, or readings by thickness
+  -- the work of sorting: a face's polygons by falling area, readings by thickness or by their pairs of faces, faces by id
   pub order : at .order ≡ at .hits + at .polygons
   -- what each face is as a round: 0 none, 1 convex, 2 concave, 3 a hole
   pub kinds : at .kinds ≡ at .order + 2 * at .polygons
-  -- not used yet
-  pub spare : at .spare ≡ at .kinds + at .polygons
+  -- the rank of each face: how many faces have a lower id
+  pub ranks : at .ranks ≡ at .kinds + at .polygons
   -- the end
   pub words : at .words ≡ wordsNeeded (at .polygons) (at .vertices)
   -- ---- f64: from 0 on four numbers for the plane of each polygon
@@ -63,6 +69,9 @@ regionsOf p v =
       polygons = p;
       vertices = v;
       sides = p;
+      items = p + 3 * v;
+      sorted = p + 4 * v;
+      chain = p + 6 * v;
       work = p + 6 * v;
       faces = p + 8 * v;
       firsts = 2 * p + 8 * v;
@@ -70,7 +79,7 @@ regionsOf p v =
       hits = 3 * p + 8 * v + 1024;
       order = 4 * p + 8 * v + 1024;
       kinds = 6 * p + 8 * v + 1024;
-      spare = 7 * p + 8 * v + 1024;
+      ranks = 7 * p + 8 * v + 1024;
       words = wordsNeeded p v;
       areas = 4 * p;
       totals = 5 * p;

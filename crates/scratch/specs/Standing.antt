@@ -1,8 +1,8 @@
 -- What the lent scratch holds once a part's body has been put there, by the part alone. Definitions only.
 use mathlib.Core.Path.{_≡_}
 use mathlib.Core.List.{List}
-use Prim.Native.Nat.{ℕ, _≤_}
-use lib.ListN.{length}
+use Prim.Native.Nat.{ℕ, _≤_, _<_}
+use lib.ListN.{length, getD}
 use lib.Ieee.{Float}
 use Rattle.list_laws.specs.Region.{part}
 use Rattle.file_part.specs.Layout.{vertexCount, polygonCount}
@@ -25,7 +25,7 @@ pub record Placed (s : List ℕ) (at : Regions) : Type 0 where
 -- the u32 scratch
 pub record Words (t : Part) (at : Regions) (words : List ℕ) : Type 0 where
   pub labels : Labels t words
-  pub sides : SharedSegments t (part (at .sides) (at .faces) words)
+  pub sides : SharedSegments t (part (at .sides) (at .items) words)
   pub faces : Faces t (part (at .faces) (at .readings) words)
 
 -- the f64 scratch
@@ -42,3 +42,9 @@ pub record Standing (s : List ℕ) (at : Regions) (words : List ℕ) (reals : Li
   pub reals-room : at .reals ≤ length reals
   pub the-words : Words (partOf s) at words
   pub the-reals : Reals (partOf s) at reals
+
+-- what later stages may change of the words: the cells for sides in order, and those past the body. All else is as it was
+pub record BodyKept (at : Regions) (old new : List ℕ) : Type 0 where
+  pub front : (i : ℕ) → i < at .items → getD new i 0 ≡ getD old i 0
+  pub faces : (i : ℕ) → at .faces ≤ i → i < at .readings → getD new i 0 ≡ getD old i 0
+  pub long : length new ≡ length old

@@ -13,6 +13,9 @@ pub struct Regions {
     pub vertices: usize,
     // u32, after the bodies of the polygons, which stand from 0 on
     pub sides: usize,
+    pub items: usize,
+    pub sorted: usize,
+    pub chain: usize,
     pub work: usize,
     pub faces: usize,
     pub firsts: usize,
@@ -20,7 +23,7 @@ pub struct Regions {
     pub hits: usize,
     pub order: usize,
     pub kinds: usize,
-    pub spare: usize,
+    pub ranks: usize,
     pub words: usize,
     // f64, after the planes of the polygons, which stand from 0 on
     pub areas: usize,
@@ -40,7 +43,10 @@ impl Regions {
         requires { ⌜ polygons ≤ 4096 ⌝ ∗ ⌜ vertices ≤ 16384 ⌝ }
         ensures { λ r. ⌜ Laid r ⌝ ∗ ⌜ r .polygons ≡ polygons ⌝ ∗ ⌜ r .vertices ≡ vertices ⌝ }
     {
-        let faces = polygons + 8 * vertices;
+        let items = polygons + 3 * vertices;
+        let sorted = items + vertices;
+        let chain = sorted + 2 * vertices;
+        let faces = chain + 2 * vertices;
         let firsts = faces + polygons;
         let readings = firsts + 1024;
         let order = readings + 2 * polygons;
@@ -54,6 +60,9 @@ impl Regions {
             polygons: polygons,
             vertices: vertices,
             sides: polygons,
+            items: items,
+            sorted: sorted,
+            chain: chain,
             work: polygons + 6 * vertices,
             faces: faces,
             firsts: firsts,
@@ -61,7 +70,7 @@ impl Regions {
             hits: readings + polygons,
             order: order,
             kinds: kinds,
-            spare: kinds + polygons,
+            ranks: kinds + polygons,
             words: kinds + 2 * polygons,
             areas: 4 * polygons,
             totals: totals,

@@ -34,7 +34,7 @@ use Rattle.solid_edges.proofs.ScanLaws.{end-is}
 
 -- ---- one side
 pub square-is : {file sides faces : List ℕ} → Lent file sides faces → (s : ℕ) → s < vertexCount file → (to : ℕ) (p a b n d : Vec3) (r : Float) →
-    to ≡ getD sides (s * 8 + 3) 0 → a ≡ vecAt file (24 * s) → b ≡ vecAt file (24 * to) → n ≡ nearestOn p a b → d ≡ minus n p → r ≡ lengthSqOf d →
+    to ≡ getD sides (s * 3) 0 → a ≡ vecAt file (24 * s) → b ≡ vecAt file (24 * to) → n ≡ nearestOn p a b → d ≡ minus n p → r ≡ lengthSqOf d →
     r ≡ sideSquare (partOf file) p s
 unfolding sideSquare
 square-is {file} lent s low to p a b n d r e x y q m h =

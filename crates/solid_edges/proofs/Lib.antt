@@ -1,11 +1,7 @@
 -- The laws on edges. An index of those that other crates cite, file by file.
--- IdLaws: the ids of faces
---   first-begins, first-below, first-number   the first polygon of a face below facesOf
---   ids-apart               faces of different numbers have different ids
---   id-irreflexive, id-transitive, id-total, face-irreflexive, face-transitive, face-total   the order of ids, and of faces
 -- ScanLaws: what the lent slices of an accepted file hold
 --   owner-below, end-below, face-below   the polygon, the end and the face of a side are there
---   known-readable, lent-readable, few-vertices, few-faces, vertex-room
+--   lent-readable, few-vertices, vertex-room
 -- EdgeLaws
 --   beyond-below, other-below            the faces of an edge are there
 --   edge-between, between-edge           an edge is a shared segment between different faces, and back
@@ -20,7 +16,6 @@
 -- DistanceLaws
 --   least-near, least-past, edge-all, between-all   the loops: the root of the least square is the least distance
 --   distance-least          the distance of some edge, with none nearer, or infinity
-pub mod IdLaws
 pub mod ScanLaws
 pub mod EdgeLaws
 pub mod NeighbourLaws

@@ -15,7 +15,8 @@ use Rattle.file_part.specs.Layout.{vertexCount}
 use Rattle.file_part.specs.Part.{Part, partOf}
 use Rattle.file_part.proofs.PartLaws.{part-vertices}
 use Rattle.solid_edges.specs.Edges.{isEdgeOf, otherFace, isBetween, leadsTo}
-use Rattle.solid_edges.specs.Neighbours.{faceBefore, isPast, isWanted, isBetter, betterOf, neighbourTo, nextNeighbour, firstBetween}
+use Rattle.solid_ids.specs.Ids.{faceBefore}
+use Rattle.solid_edges.specs.Neighbours.{isPast, isWanted, isBetter, betterOf, neighbourTo, nextNeighbour, firstBetween}
 
 -- ---- `is_past` and `is_better`
 pub past-none : (t : Part) (after g : ℕ) → after ≡ 0 → true ≡ isPast t after g

@@ -15,8 +15,9 @@ use Rattle.file_ok.specs.Verdict.{Readable}
 use Rattle.file_part.proofs.PartLaws.{part-vertices}
 use Rattle.solid_faces.specs.Faces.{facesOf}
 use Rattle.solid_edges.specs.Edges.{isEdgeOf, otherFace}
-use Rattle.solid_edges.specs.Neighbours.{faceBefore, isPast, isWanted, isBetter, neighbourTo, nextNeighbour, NextNeighbour}
-use Rattle.solid_edges.proofs.IdLaws.{face-irreflexive, face-transitive, face-total}
+use Rattle.solid_ids.specs.Ids.{faceBefore}
+use Rattle.solid_edges.specs.Neighbours.{isPast, isWanted, isBetter, neighbourTo, nextNeighbour, NextNeighbour}
+use Rattle.solid_ids.proofs.IdLaws.{face-irreflexive, face-transitive, face-total}
 use Rattle.solid_edges.proofs.EdgeLaws.{other-below}
 
 -- no face yet, or face g

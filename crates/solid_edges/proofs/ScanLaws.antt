@@ -9,21 +9,18 @@ use lib.ListN.{length, getD}
 use Rattle.num_float.proofs.Tests.{lt-or-ge}
 use Rattle.list_laws.proofs.Below.{sum-none}
 use Rattle.file_part.specs.Layout.{vertexCount, polygonCount, entryAt}
-use Rattle.file_part.specs.declared.read.FaceId.{FaceId}
-use Rattle.file_part.specs.Part.{Part, faceAt, countAt, partOf}
+use Rattle.file_part.specs.Part.{Part, countAt, partOf}
 use Rattle.file_ok.specs.Rules.{runStart}
 use Rattle.file_ok.specs.Verdict.{Readable}
-use Rattle.file_part.proofs.PartLaws.{part-vertices, part-polygons, part-face}
+use Rattle.file_part.proofs.PartLaws.{part-vertices, part-polygons}
 use Rattle.file_ok.proofs.ReadableLaws.{readable-length, readable-counts, readable-whole}
 use Rattle.solid_segments.specs.Sides.{ownerOf, toOf}
 use Rattle.solid_segments.proofs.RunLaws.{owner-is, to-inside}
-use Rattle.solid_faces.specs.Faces.{facesOf, faceNumber, firstPolygon}
-use Rattle.solid_faces.proofs.BodyLaws.{checked-readable, checked-faces}
+use Rattle.solid_faces.specs.Faces.{facesOf, faceNumber}
 use Rattle.solid_faces.proofs.FaceLaws.{number-below}
+use Rattle.solid_ids.proofs.KnownLaws.{known-readable}
 use Rattle.solid_edges.specs.Edges.{pairIn, faceOfSide}
-use Rattle.solid_edges.specs.Neighbours.{idOf}
-use Rattle.solid_edges.specs.Scan.{KnownFaces, Lent}
-use Rattle.solid_edges.proofs.IdLaws.{first-below}
+use Rattle.solid_edges.specs.Scan.{Lent}
 
 -- ---- the run that a side is in
 record InRun (file : List ℕ) (s : ℕ) : Type 0 where
@@ -70,20 +67,11 @@ unfolding faceOfSide
 face-below file h s l = number-below (partOf file) (ownerOf (partOf file) s) (omega (arith, owner-below file h s l, part-polygons file))
 
 -- ---- the file
-pub known-readable : {file faces : List ℕ} → KnownFaces file faces → Readable file
-known-readable {file} h = checked-readable file (h .checked)
-
 pub lent-readable : {file sides faces : List ℕ} → Lent file sides faces → Readable file
 lent-readable h = known-readable (h .faced)
 
-pub trailer : {file faces : List ℕ} → KnownFaces file faces → 16 ≤ length file
-trailer {file} h = omega (arith, readable-length file (known-readable h))
-
 pub few-vertices : {file sides faces : List ℕ} → Lent file sides faces → vertexCount file ≤ 16384
 few-vertices {file} h = readable-counts file (lent-readable h) .0
-
-pub few-faces : {file faces : List ℕ} → KnownFaces file faces → facesOf (partOf file) ≤ 1024
-few-faces {file} h = checked-faces file (h .checked)
 
 pub vertex-room : {file sides faces : List ℕ} → Lent file sides faces → (i : ℕ) → i < vertexCount file → 24 * i + 24 ≤ length file
 vertex-room {file} h i l = omega (arith, l, readable-length file (lent-readable h))
@@ -96,50 +84,26 @@ module _ {file sides faces : List ℕ} (lent : Lent file sides faces) (s : ℕ) 
   side-in : s < t .vertices
   side-in = omega (arith, low, part-vertices file)
 
-  pub side-room : s * 8 + 8 ≤ length sides
+  pub side-room : s * 3 + 3 ≤ length sides
   side-room = omega (arith, side-in, lent .shared .long)
 
-  pub pair-is : (r : ℕ) → r ≡ getD sides (s * 8 + 7) 0 → r ≡ pairIn t s
+  pub pair-is : (r : ℕ) → r ≡ getD sides (s * 3 + 2) 0 → r ≡ pairIn t s
   unfolding pairIn
   pair-is r e = e ∙ lent .shared .pairs s side-in
 
-  pub end-is : (r : ℕ) → r ≡ getD sides (s * 8 + 3) 0 → r ≡ toOf t s
+  pub end-is : (r : ℕ) → r ≡ getD sides (s * 3) 0 → r ≡ toOf t s
   end-is r e = e ∙ lent .shared .ends s side-in
 
-  pub end-in : (r : ℕ) → r ≡ getD sides (s * 8 + 3) 0 → r < vertexCount file
+  pub end-in : (r : ℕ) → r ≡ getD sides (s * 3) 0 → r < vertexCount file
   end-in r e = omega (arith, end-is r e, end-below file (lent-readable lent) s low)
 
-  owner-in : (p : ℕ) → p ≡ getD sides (s * 8 + 4) 0 → p < t .polygons
+  owner-in : (p : ℕ) → p ≡ getD sides (s * 3 + 1) 0 → p < t .polygons
   owner-in p e = omega (arith, e, lent .shared .owners s side-in, owner-below file (lent-readable lent) s low, part-polygons file)
 
-  pub owner-room : (p : ℕ) → p ≡ getD sides (s * 8 + 4) 0 → p < length faces
+  pub owner-room : (p : ℕ) → p ≡ getD sides (s * 3 + 1) 0 → p < length faces
   owner-room p e = omega (arith, owner-in p e, lent .faced .long)
 
-  pub face-is : (p r : ℕ) → p ≡ getD sides (s * 8 + 4) 0 → r ≡ getD faces p 0 → r ≡ faceOfSide t s
+  pub face-is : (p r : ℕ) → p ≡ getD sides (s * 3 + 1) 0 → r ≡ getD faces p 0 → r ≡ faceOfSide t s
   unfolding faceOfSide
   face-is p r e q =
       q ∙ lent .faced .known .numbers .each p (owner-in p e) ∙ ap (faceNumber t) (e ∙ lent .shared .owners s side-in)
-
--- ---- the first polygon of a face
-module _ {file faces : List ℕ} (known : KnownFaces file faces) (m g : ℕ) (count : m ≡ polygonCount file) (low : g < facesOf (partOf file)) where
-  pub first-room : m + g < length faces
-  first-room = omega (arith, count, low, known .long, part-polygons file, few-faces known)
-
-  pub first-fits : (m ≤ 4096) × (g < 1024)
-  first-fits = (omega (arith, count, readable-counts file (known-readable known) .1), omega (arith, low, few-faces known))
-
-  first-is : (r : ℕ) → r ≡ getD faces (m + g) 0 → r ≡ firstPolygon (partOf file) g
-  first-is r e = e ∙ ap (λ (k : ℕ). getD faces (k + g) 0) (count ∙ sym (part-polygons file)) ∙ known .known .firsts g low
-
-  -- where its entry stands
-  pub first-entry : (v r : ℕ) → v ≡ vertexCount file → r ≡ getD faces (m + g) 0 → (v ≤ 16384) × (r ≤ 4096) × (entryAt v r + 80 ≤ length file)
-  first-entry v r a e =
-      let few = readable-counts file (known-readable known) in
-      let below : r < polygonCount file = omega (arith, first-is r e, first-below (partOf file) g low, part-polygons file) in
-      (omega (arith, a, few .0), omega (arith, below, few .1), omega (arith, a, below, readable-length file (known-readable known)))
-
-  pub id-is : (v r at : ℕ) (x : FaceId) → v ≡ vertexCount file → r ≡ getD faces (m + g) 0 → at ≡ entryAt v r → x ≡ faceAt file at → x ≡ idOf (partOf file) g
-  unfolding idOf
-  id-is v r at x a e i q =
-      q ∙ ap (faceAt file) (i ∙ ap (λ (k : ℕ). entryAt k r) a) ∙ ap (λ (k : ℕ). faceAt file (entryAt (vertexCount file) k)) (first-is r e)
-      ∙ sym (part-face file (firstPolygon (partOf file) g))

@@ -14,8 +14,9 @@ use Rattle.file_part.specs.Part.{Part, partOf}
 use Rattle.file_ok.specs.Verdict.{Readable}
 use Rattle.solid_faces.specs.Faces.{facesOf}
 use Rattle.solid_edges.specs.Edges.{isEdgeOf, otherFace}
-use Rattle.solid_edges.specs.Neighbours.{faceBefore, isPast, isWanted, nextNeighbour, neighbourAt, NextNeighbour}
-use Rattle.solid_edges.proofs.IdLaws.{face-irreflexive, face-transitive}
+use Rattle.solid_ids.specs.Ids.{faceBefore}
+use Rattle.solid_edges.specs.Neighbours.{isPast, isWanted, nextNeighbour, neighbourAt, NextNeighbour}
+use Rattle.solid_ids.proofs.IdLaws.{face-irreflexive, face-transitive}
 use Rattle.solid_edges.proofs.NextLaws.{next-is, next-none, next-edge, next-after, next-below, next-first}
 
 -- ---- of two tests of which one holds wherever the other does, it counts no fewer numbers, and more where it alone holds

@@ -3,23 +3,11 @@
 use mathlib.Core.Path.{_≡_}
 use mathlib.Core.Bool.{Bool, true, false, _&&_, _||_, cond}
 use Prim.Native.Nat.{ℕ, zero, suc, _-_, _<_}
-use lib.Dec.{eqb, ltb}
+use lib.Dec.{eqb}
 use Rattle.list_laws.specs.Below.{lowestBelow}
-use Rattle.file_part.specs.declared.read.FaceId.{FaceId}
 use Rattle.file_part.specs.Part.{Part}
-use Rattle.solid_faces.specs.Faces.{firstPolygon}
+use Rattle.solid_ids.specs.Ids.{faceBefore}
 use Rattle.solid_edges.specs.Edges.{isEdgeOf, otherFace, isBetween}
-
--- ids as the Rust orders them: by feature, then by index
-unfoldable pub idBefore : FaceId → FaceId → Bool
-idBefore a b = ltb (a .feature) (b .feature) || (eqb (a .feature) (b .feature) && ltb (a .index) (b .index))
-
-unfoldable pub idOf : Part → ℕ → FaceId
-idOf t f = t .polygon (firstPolygon t f) .face
-
--- face g has a lower id than face h
-unfoldable pub faceBefore : Part → ℕ → ℕ → Bool
-faceBefore t g h = idBefore (idOf t g) (idOf t h)
 
 -- face g comes past `after`, in the order of ids
 unfoldable pub isPast : Part → ℕ → ℕ → Bool

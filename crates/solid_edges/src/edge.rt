@@ -1,12 +1,12 @@
 // Whether a side is an edge, and between which faces.
 ghost use mathlib.Core.Path.{_≡_};
 ghost use Prim.Native.Nat.{_<_};
-ghost use lib.ListN.{length, getD};
 ghost use Rattle.file_part.specs.Layout.{vertexCount};
 ghost use Rattle.file_part.specs.Part.{partOf};
 ghost use Rattle.solid_edges.specs.Edges.{pairIn, faceOfSide, isEdgeOf, isBetween, leadsTo, EdgeIs};
 ghost use Rattle.solid_edges.specs.Scan.{Lent};
 use file_part::read::vertex_count;
+use list_cells::cell;
 
 // A side seen as an edge: whether it is one, its own face and the face beyond. For a side that is no edge the faces mean nothing.
 pub struct Edge {
@@ -15,27 +15,12 @@ pub struct Edge {
     pub beyond: usize,
 }
 
-// A u32 as an index.
-fn wide(n: u32) -> usize
-    ensures { λ r. ⌜ r ≡ n ⌝ }
-{
-    n as usize
-}
-
-// The number at a place.
-pub fn cell(cells: &[u32], at: usize) -> usize
-    requires { ⌜ at < length (now cells) ⌝ }
-    ensures { λ r. ⌜ r ≡ getD (now (cells .entry)) at 0 ⌝ }
-{
-    wide(cells[at])
-}
-
 // The pair of side s. (Here and below the file is lent for its meaning: the slices hold what was found in it.)
 fn pair_at(file: &[u8], sides: &[u32], faces: &[u32], s: usize) -> usize
     requires { ⌜ Lent (now file) (now sides) (now faces) ⌝ ∗ ⌜ s < vertexCount (now file) ⌝ }
     ensures { λ r. ⌜ r ≡ pairIn (partOf (now (file .entry))) s ⌝ }
 {
-    cell(sides, s * 8 + 7)
+    cell(sides, s * 3 + 2)
 }
 
 // The face of side s.
@@ -43,7 +28,7 @@ fn face_at(file: &[u8], sides: &[u32], faces: &[u32], s: usize) -> usize
     requires { ⌜ Lent (now file) (now sides) (now faces) ⌝ ∗ ⌜ s < vertexCount (now file) ⌝ }
     ensures { λ r. ⌜ r ≡ faceOfSide (partOf (now (file .entry))) s ⌝ }
 {
-    cell(faces, cell(sides, s * 8 + 4))
+    cell(faces, cell(sides, s * 3 + 1))
 }
 
 // Side s seen as an edge.

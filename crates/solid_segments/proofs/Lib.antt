@@ -15,4 +15,5 @@ pub mod KeyLaws
 pub mod RunLaws
 pub mod RowLaws
 pub mod PlaceLaws
+pub mod PackLaws
 pub mod SharedLaws

@@ -2,11 +2,12 @@
 use mathlib.Core.Path.{_≡_, refl, sym, ap, _∙_, subst}
 use mathlib.Core.Bool.{true}
 use mathlib.Core.List.{List}
-use Prim.Native.Nat.{ℕ, _+_, _*_, _<_}
+use Prim.Native.Nat.{ℕ, _+_, _*_, _≤_, _<_}
 use native.Mathlib.Omega.{arith}
 use lib.Dec.{eqb}
 use lib.Ieee.{Float}
-use lib.ListN.{length}
+use lib.ListN.{length, getD, take, length-take}
+use lib.Seq.{getD-take}
 use Rattle.num_float.specs.Within.{Within}
 use Rattle.math.specs.Size.{VecWithin}
 use Rattle.file_part.specs.Part.{Part, partOf}
@@ -15,7 +16,7 @@ use Rattle.solid_segments.specs.Key.{segmentScale, keyPart, sameInt, sam
 use Rattle.solid_keys.specs.Pair.{pairOf}
 use Rattle.solid_keys.specs.Columns.{col, sameCells, sideCells, Sides, Paired}
 use Rattle.solid_segments.specs.Sides.{toOf, sameEnd, live, sameSide, SharedBy, AloneIn, FirstOfMany, SharedSegments}
-use Rattle.solid_segments.specs.Stages.{cellOf, Lent, PlacedBelow, OwnsMore}
+use Rattle.solid_segments.specs.Stages.{cellOf, Lent, PlacedBelow, OwnsMore, PairedSides}
 use Rattle.solid_keys.proofs.CellLaws.{kept-column}
 use Rattle.solid_keys.proofs.SideLaws.{Alike, side-same, sides-alike, side-self}
 use Rattle.solid_keys.proofs.MeaningLaws.{shared-pair, pair-shared, alone-pair, pair-alone, many-pair, pair-many}
@@ -97,7 +98,7 @@ module _ (file mem : List ℕ) (v : ℕ) (lent : Lent file mem v) (placed : Plac
         ends = λ s l. omega (arith, placed s l .end, to-below s l);
       }
 
-  pub all-shared : (new last : List ℕ) → Paired mem new v → OwnsMore part new last 0 v → length last ≡ length mem → SharedSegments part last
+  pub all-shared : (new last : List ℕ) → Paired mem new v → OwnsMore part new last 0 v → length last ≡ length mem → PairedSides part last
   unfolding OwnsMore PlacedBelow
   all-shared new last paired more long =
       let owned = more new (record { owners = λ s l. absurd (omega arith); others = λ j l d s. refl }) in
@@ -115,22 +116,32 @@ module _ (file mem : List ℕ) (v : ℕ) (lent : Lent file mem v) (placed : Plac
         owners = λ s l. owned .owners s (subst (λ (k : ℕ). s < k) vertices-are l);
       }
 
+-- ---- the three cells a side alone
+pub shared-front : (t : Part) (mem : List ℕ) (n : ℕ) → 3 * t .vertices ≤ n → SharedSegments t mem → SharedSegments t (take n mem)
+shared-front t mem n room h =
+    record {
+      long = simp length-take (omega (arith, h .long, room));
+      ends = λ s l. getD-take n mem (s * 3) 0 (omega (arith, l, room)) ∙ h .ends s l;
+      owners = λ s l. getD-take n mem (s * 3 + 1) 0 (omega (arith, l, room)) ∙ h .owners s l;
+      pairs = λ s l. getD-take n mem (s * 3 + 2) 0 (omega (arith, l, room)) ∙ h .pairs s l;
+    }
+
 -- ---- what the pairs mean, by the laws of `MeaningLaws`
 module _ (t : Part) (mem : List ℕ) (found : SharedSegments t mem) (s : ℕ) where
-  pub segment-shared : (u : ℕ) → s < u → u < t .vertices → col mem 7 s ≡ u + 1 → SharedBy t s u
+  pub segment-shared : (u : ℕ) → s < u → u < t .vertices → getD mem (s * 3 + 2) 0 ≡ u + 1 → SharedBy t s u
   segment-shared u l m e = pair-shared (sameSide t) (part-sides-alike t) (t .vertices) s u l m (sym (found .pairs s (omega arith)) ∙ e)
 
-  pub shared-segment : (u : ℕ) → SharedBy t s u → col mem 7 s ≡ u + 1
+  pub shared-segment : (u : ℕ) → SharedBy t s u → getD mem (s * 3 + 2) 0 ≡ u + 1
   shared-segment u w = found .pairs s (omega (arith, w .order, w .below)) ∙ shared-pair (sameSide t) (part-sides-alike t) (t .vertices) s u w
 
-  pub side-alone : s < t .vertices → col mem 7 s ≡ s + 1 → AloneIn t s
+  pub side-alone : s < t .vertices → getD mem (s * 3 + 2) 0 ≡ s + 1 → AloneIn t s
   side-alone l e = pair-alone (sameSide t) (part-sides-alike t) (t .vertices) s l (sym (found .pairs s l) ∙ e)
 
-  pub alone-side : AloneIn t s → col mem 7 s ≡ s + 1
+  pub alone-side : AloneIn t s → getD mem (s * 3 + 2) 0 ≡ s + 1
   alone-side w = found .pairs s (w .below) ∙ alone-pair (sameSide t) (part-sides-alike t) (t .vertices) s w
 
-  pub side-many : s < t .vertices → col mem 7 s ≡ t .vertices + 1 → FirstOfMany t s
+  pub side-many : s < t .vertices → getD mem (s * 3 + 2) 0 ≡ t .vertices + 1 → FirstOfMany t s
   side-many l e = pair-many (sameSide t) (part-sides-alike t) (t .vertices) s (sym (found .pairs s l) ∙ e)
 
-  pub many-side : FirstOfMany t s → col mem 7 s ≡ t .vertices + 1
+  pub many-side : FirstOfMany t s → getD mem (s * 3 + 2) 0 ≡ t .vertices + 1
   many-side w = found .pairs s (omega (arith, w .order, w .below)) ∙ many-pair (sameSide t) (part-sides-alike t) (t .vertices) s w

@@ -6,12 +6,11 @@ use mathlib.Core.Bool.{Bool, cond}
 use mathlib.Core.List.{List}
 use Prim.Native.Nat.{ℕ, _+_, _*_, _≤_, _<_}
 use lib.Dec.{eqb, leb}
-use lib.ListN.{length}
+use lib.ListN.{length, getD}
 use Rattle.list_laws.specs.Below.{sumBelow}
 use Rattle.file_part.specs.Part.{Part}
 use Rattle.solid_segments.specs.Key.{segmentScale, sameKey}
 use Rattle.solid_keys.specs.Pair.{isLive, sideKey, pairOf, Shared, Alone, Many}
-use Rattle.solid_keys.specs.Columns.{col}
 
 -- the vertex after the run of polygon p
 unfoldable pub runEnd : Part → ℕ → ℕ
@@ -60,11 +59,11 @@ AloneIn t s = Alone (sameSide t) (t .vertices) s
 abbrev pub FirstOfMany : Part → ℕ → Type 0
 FirstOfMany t s = Many (sameSide t) (t .vertices) s
 
--- What `shared_segments` leaves, for each side s of a part: in column 7 the pair of s, in column 3 the vertex where it ends, in
--- column 4 its polygon. The shared segments in the order "in which their key first appears, by polygon, then side" are the s in
--- rising order with a pair of s + 2 to V; `pairOf` keeps one side, two and more of a key apart.
+-- What `shared_segments` leaves, three cells for each side s of a part: the vertex where it ends, its polygon, and the pair of s. The
+-- shared segments in the order "in which their key first appears, by polygon, then side" are the s in rising order with a pair of s + 2
+-- to V; `pairOf` keeps one side, two and more of a key apart.
 pub record SharedSegments (t : Part) (mem : List ℕ) : Type 0 where
-  pub long : length mem ≡ 8 * t .vertices
-  pub pairs : (s : ℕ) → s < t .vertices → col mem 7 s ≡ pairOf (sameSide t) (t .vertices) s
-  pub ends : (s : ℕ) → s < t .vertices → col mem 3 s ≡ toOf t s
-  pub owners : (s : ℕ) → s < t .vertices → col mem 4 s ≡ ownerOf t s
+  pub long : 3 * t .vertices ≤ length mem
+  pub ends : (s : ℕ) → s < t .vertices → getD mem (s * 3) 0 ≡ toOf t s
+  pub owners : (s : ℕ) → s < t .vertices → getD mem (s * 3 + 1) 0 ≡ ownerOf t s
+  pub pairs : (s : ℕ) → s < t .vertices → getD mem (s * 3 + 2) 0 ≡ pairOf (sameSide t) (t .vertices) s

@@ -3,7 +3,7 @@ use mathlib.Core.Path.{_≡_}
 use mathlib.Core.List.{List}
 use Prim.Native.Nat.{ℕ, _+_, _*_, _≤_, _<_}
 use lib.Ieee.{Float}
-use lib.ListN.{length, set}
+use lib.ListN.{length, getD, set}
 use Rattle.math.specs.declared.Vec3.{Vec3}
 use Rattle.file_part.specs.Layout.{vertexCount}
 use Rattle.file_part.specs.Part.{Part, partOf}
@@ -11,7 +11,8 @@ use Rattle.file_ok.specs.Rules.{runStart}
 use Rattle.file_ok.specs.Verdict.{Readable}
 use Rattle.solid_segments.specs.Key.{segmentScale, keyCell}
 use Rattle.solid_keys.specs.Columns.{col}
-use Rattle.solid_segments.specs.Sides.{ownerOf, toOf}
+use Rattle.solid_keys.specs.Pair.{pairOf}
+use Rattle.solid_segments.specs.Sides.{ownerOf, toOf, sameSide}
 
 -- where the run of polygon p of a file begins
 abbrev pub startOf : List ℕ → ℕ → ℕ
@@ -64,3 +65,23 @@ pub record Lent (file mem : List ℕ) (v : ℕ) : Type 0 where
   pub readable : Readable file
   pub is-count : v ≡ vertexCount file
   pub long : length mem ≡ 8 * v
+
+-- the sides once they are paired, eight cells each: in column 7 the pair of side s, in column 3 the vertex where it ends, in column 4 its polygon
+pub record PairedSides (t : Part) (mem : List ℕ) : Type 0 where
+  pub long : length mem ≡ 8 * t .vertices
+  pub pairs : (s : ℕ) → s < t .vertices → col mem 7 s ≡ pairOf (sameSide t) (t .vertices) s
+  pub ends : (s : ℕ) → s < t .vertices → col mem 3 s ≡ toOf t s
+  pub owners : (s : ℕ) → s < t .vertices → col mem 4 s ≡ ownerOf t s
+
+-- those three of the first k sides moved together to the front; the cells of the sides from k on stand where they stood
+pub record Packed (k : ℕ) (old new : List ℕ) : Type 0 where
+  pub ends : (s : ℕ) → s < k → getD new (s * 3) 0 ≡ col old 3 s
+  pub owners : (s : ℕ) → s < k → getD new (s * 3 + 1) 0 ≡ col old 4 s
+  pub pairs : (s : ℕ) → s < k → getD new (s * 3 + 2) 0 ≡ col old 7 s
+  pub rest : (i : ℕ) → k * 8 ≤ i → getD new i 0 ≡ getD old i 0
+  pub long : length new ≡ length old
+
+-- one side more
+pub record PackedMore (s : ℕ) (before after : List ℕ) : Type 0 where
+  pub packed : (old : List ℕ) → Packed s old before → Packed (s + 1) old after
+  pub long : length after ≡ length before

@@ -10,6 +10,7 @@ ghost use Rattle.file_ok.specs.Verdict.{Readable};
 ghost use Rattle.solid_segments.specs.Sides.{nextOf, SharedSegments};
 ghost use Rattle.solid_segments.specs.Stages.{startOf, RunAt, sideRow, Lent, PlacedBelow, OwnsMore, OwnsRun};
 use crate::key::key_cell;
+use crate::pack::pack_sides;
 use file_part::read::entry_at;
 use file_part::read::first_vertex;
 use file_part::read::polygon_count;
@@ -119,7 +120,8 @@ fn put_owners(file: &[u8], mem: &mut [u32], vertices: usize, polygons: usize)
     }
 }
 
-// The pair, the end and the polygon of every side, in eight cells for each. What the cells held before plays no part.
+// The end, the polygon and the pair of every side, in three cells for each; the five cells a side after them are work. What the cells held before
+// plays no part.
 pub fn shared_segments(file: &[u8], mem: &mut [u32])
     requires { ⌜ Readable (now file) ⌝ ∗ ⌜ length (now mem) ≡ 8 * vertexCount (now file) ⌝ }
     ensures { λ _. ⌜ SharedSegments (partOf (now (file .entry))) (now (mem .exit)) ⌝ }
@@ -129,4 +131,5 @@ pub fn shared_segments(file: &[u8], mem: &mut [u32])
     put_sides(file, mem, vertices, polygons);
     pair_sides(mem, vertices);
     put_owners(file, mem, vertices, polygons);
+    pack_sides(mem, vertices);
 }

@@ -1,13 +1,13 @@
 -- The scan over the polygons, one turn each, in the words of what the code calls.
 use mathlib.Core.Path.{_≡_, refl, sym, ap, _∙_, subst}
-use mathlib.Core.Bool.{Bool, true, false, not, _&&_}
+use mathlib.Core.Bool.{Bool, true, false, not, _&&_, cond}
 use mathlib.Core.List.{List}
-use Prim.Native.Nat.{ℕ, _+_, _≤_, _<_}
+use Prim.Native.Nat.{ℕ, zero, suc, _+_, _-_, _≤_, _<_}
 use native.Mathlib.Omega.{arith}
 use native.Mathlib.Numerals.{add-one}
-use native.Mathlib.Nat.{le-antisymm}
+use native.Mathlib.Nat.{le-antisymm, add-zero, add-suc}
 use lib.Ieee.{Float, lt}
-use Rattle.num_float.proofs.Tests.{and-false-left, and-false-right}
+use Rattle.num_float.proofs.Tests.{contrary, and-false-left, and-false-right}
 use Rattle.list_laws.specs.Below.{allBelow}
 use Rattle.list_laws.proofs.Below.{all-more, all-fails}
 use Rattle.num_real.specs.Select.{absOf}
@@ -65,6 +65,16 @@ keep true true false d h i = i
 keep true false c d h i = h
 keep false b c d h i = h
 
+forget : (a b c : Bool) → (a && (b && true)) ≡ false → (a && (b && c)) ≡ false
+forget true true c h = absurd (contrary refl h)
+forget true false c h = refl
+forget false b c h = refl
+
+recall : (a b c : Bool) → (a && (b && true)) ≡ true → c ≡ true → (a && (b && c)) ≡ true
+recall true true c h i = i
+recall true false c h i = h
+recall false b c h i = h
+
 -- one side more
 pub sides-more : (c : ℕ → Vec3) (n : ℕ) (m q : Vec3) (k : ℕ) (b : Bool) → allBelow k (isWithin c n m q) ≡ true → b ≡ isWithin c n m q k → b ≡ true →
     allBelow (k + 1) (isWithin c n m q) ≡ true
@@ -89,10 +99,9 @@ run-corners s v m p at first n h a b l i e q =
       each = λ k low. readable-vertex s h (first + k) (omega (arith, f, readable-index s h p (omega (arith, b, l)) k (omega (arith, c, low))));
     }
 
--- ---- a turn: polygon p with its plane x, the product d and the time u
-module _ (s : List ℕ) (r : Ray) (p : ℕ) (x : Plane) (d u : Float) (h : Hit) (b : Bool)
-    (ex : x ≡ polygonPlane (partOf s) p) (ed : d ≡ dotOf (x .normal) (r .dir)) (eu : u ≡ timeOf x r) (w : Scanned (partOf s) r p h)
-    (eb : b ≡ (not (lt (absOf d) e-12) && (not (lt u vector.zero) && improves h u))) where
+-- ---- polygon p with its plane x, the product d and the time u
+module _ (s : List ℕ) (r : Ray) (p : ℕ) (x : Plane) (d u : Float) (ex : x ≡ polygonPlane (partOf s) p) (ed : d ≡ dotOf (x .normal) (r .dir))
+    (eu : u ≡ timeOf x r) where
   is-time : u ≡ hitTime (partOf s) r p
   unfolding hitTime
   is-time = eu ∙ ap (λ (k : Plane). timeOf k r) ex
@@ -101,29 +110,64 @@ module _ (s : List ℕ) (r : Ray) (p : ℕ) (x : Plane) (d u : Float) (h : Hit) 
   unfolding isParallel
   along = rw (← ex, ← ed)
 
-  reached : (c : Bool) → b ≡ c →
+  reached : (h : Hit) (b c : Bool) → b ≡ (not (lt (absOf d) e-12) && (not (lt u vector.zero) && improves h u)) → b ≡ c →
       (not (isParallel (polygonPlane (partOf s) p) r) && (not (lt (hitTime (partOf s) r p) vector.zero) && improves h (hitTime (partOf s) r p))) ≡ c
-  reached c e = rw (← is-time, ← along) (sym eb ∙ e)
+  reached h b c eb e = rw (← is-time, ← along) (sym eb ∙ e)
 
+  inside : (v at first n : ℕ) (q : Vec3) → v ≡ vertexCount s → at ≡ entryAt v p → first ≡ firstAt s at → n ≡ countAt s at → q ≡ pointOf r u →
+      isInside (partOf s) r p ≡ allBelow n (isWithin (cornerAt s first) n (x .normal) q)
+  unfolding isInside
+  inside v at first n q ev ea ef en eq = rw (← is-time, ← ex, ← eq) (sym (sides-are s v p at first n (x .normal) q ev ea ef en))
+
+-- ---- whether it is struck, by itself
+module _ (s : List ℕ) (r : Ray) (p : ℕ) (x : Plane) (d u : Float) (b : Bool) (ex : x ≡ polygonPlane (partOf s) p)
+    (ed : d ≡ dotOf (x .normal) (r .dir)) (eu : u ≡ timeOf x r) (eb : b ≡ (not (lt (absOf d) e-12) && (not (lt u vector.zero) && improves Nothing u))) where
+  tested : (c : Bool) → b ≡ c → (not (isParallel (polygonPlane (partOf s) p) r) && (not (lt (hitTime (partOf s) r p) vector.zero) && true)) ≡ c
+  unfolding improves
+  tested c e = reached s r p x d u ex ed eu Nothing b c eb e
+
+  -- the tests without a corner fail
+  pub unreached : b ≡ false → false ≡ struck (partOf s) r p
+  unfolding struck
+  unreached e =
+      sym (forget (not (isParallel (polygonPlane (partOf s) p) r)) (not (lt (hitTime (partOf s) r p) vector.zero)) (isInside (partOf s) r p) (tested false e))
+
+  module _ (v at first n : ℕ) (q : Vec3) (ev : v ≡ vertexCount s) (ea : at ≡ entryAt v p) (ef : first ≡ firstAt s at) (en : n ≡ countAt s at)
+      (eq : q ≡ pointOf r u) where
+    -- side k fails
+    pub passed-by : (k : ℕ) (c : Bool) → k < n → c ≡ isWithin (cornerAt s first) n (x .normal) q k → c ≡ false → false ≡ struck (partOf s) r p
+    unfolding struck
+    passed-by k c l e f =
+        let outside = inside s r p x d u ex ed eu v at first n q ev ea ef en eq ∙ all-fails n (isWithin (cornerAt s first) n (x .normal) q) k l (sym e ∙ f) in
+        sym (and-false-right (not (isParallel (polygonPlane (partOf s) p) r)) _ (and-false-right (not (lt (hitTime (partOf s) r p) vector.zero)) _ outside))
+
+    -- all tests pass
+    pub passed-through : (k : ℕ) → b ≡ true → k ≤ n → n ≤ k → allBelow k (isWithin (cornerAt s first) n (x .normal) q) ≡ true → true ≡ struck (partOf s) r p
+    unfolding struck
+    passed-through k e a z all =
+        let every = inside s r p x d u ex ed eu v at first n q ev ea ef en eq
+        ∙ subst (λ (j : ℕ). allBelow j (isWithin (cornerAt s first) n (x .normal) q) ≡ true) (le-antisymm a z) all in
+        sym (recall (not (isParallel (polygonPlane (partOf s) p) r)) (not (lt (hitTime (partOf s) r p) vector.zero)) (isInside (partOf s) r p) (tested true e) every)
+
+-- ---- a turn of the scan
+module _ (s : List ℕ) (r : Ray) (p : ℕ) (x : Plane) (d u : Float) (h : Hit) (b : Bool)
+    (ex : x ≡ polygonPlane (partOf s) p) (ed : d ≡ dotOf (x .normal) (r .dir)) (eu : u ≡ timeOf x r) (w : Scanned (partOf s) r p h)
+    (eb : b ≡ (not (lt (absOf d) e-12) && (not (lt u vector.zero) && improves h u))) where
   -- the three tests fail
   pub skip-unreached : b ≡ false → Scanned (partOf s) r (p + 1) h
   unfolding struck
   skip-unreached e =
       best-skip (struck (partOf s) r) (hitTime (partOf s) r) p h w
       (drop (not (isParallel (polygonPlane (partOf s) p) r)) (not (lt (hitTime (partOf s) r p) vector.zero)) (isInside (partOf s) r p)
-      (improves h (hitTime (partOf s) r p)) (reached false e))
+      (improves h (hitTime (partOf s) r p)) (reached s r p x d u ex ed eu h b false eb e))
 
   module _ (v at first n : ℕ) (q : Vec3) (ev : v ≡ vertexCount s) (ea : at ≡ entryAt v p) (ef : first ≡ firstAt s at) (en : n ≡ countAt s at)
       (eq : q ≡ pointOf r u) where
-    inside : isInside (partOf s) r p ≡ allBelow n (isWithin (cornerAt s first) n (x .normal) q)
-    unfolding isInside
-    inside = rw (← is-time, ← ex, ← eq) (sym (sides-are s v p at first n (x .normal) q ev ea ef en))
-
     -- side k fails
     pub skip-outside : (k : ℕ) (c : Bool) → k < n → c ≡ isWithin (cornerAt s first) n (x .normal) q k → c ≡ false → Scanned (partOf s) r (p + 1) h
     unfolding struck
     skip-outside k c l e f =
-        let outside = inside ∙ all-fails n (isWithin (cornerAt s first) n (x .normal) q) k l (sym e ∙ f) in
+        let outside = inside s r p x d u ex ed eu v at first n q ev ea ef en eq ∙ all-fails n (isWithin (cornerAt s first) n (x .normal) q) k l (sym e ∙ f) in
         best-skip (struck (partOf s) r) (hitTime (partOf s) r) p h w
         (and-false-left _ (improves h (hitTime (partOf s) r p))
         (and-false-right (not (isParallel (polygonPlane (partOf s) p) r)) _ (and-false-right (not (lt (hitTime (partOf s) r p) vector.zero)) _ outside)))
@@ -133,14 +177,52 @@ module _ (s : List ℕ) (r : Ray) (p : ℕ) (x : Plane) (d u : Float) (h : Hit) 
         Scanned (partOf s) r (p + 1) (At p u)
     unfolding struck
     take-reached k e a z all =
-        let every = inside ∙ subst (λ (j : ℕ). allBelow j (isWithin (cornerAt s first) n (x .normal) q) ≡ true) (le-antisymm a z) all in
-        ap (At p) is-time
+        let every = inside s r p x d u ex ed eu v at first n q ev ea ef en eq
+        ∙ subst (λ (j : ℕ). allBelow j (isWithin (cornerAt s first) n (x .normal) q) ≡ true) (le-antisymm a z) all in
+        ap (At p) (is-time s r p x d u ex ed eu)
         ∙ best-take (struck (partOf s) r) (hitTime (partOf s) r) p h w
         (keep (not (isParallel (polygonPlane (partOf s) p) r)) (not (lt (hitTime (partOf s) r p) vector.zero)) (isInside (partOf s) r p)
-        (improves h (hitTime (partOf s) r p)) (reached true e) every)
+        (improves h (hitTime (partOf s) r p)) (reached s r p x d u ex ed eu h b true eb e) every)
+
+-- ---- whether any polygon is struck
+-- none below p
+abbrev pub Missed : Part → Ray → ℕ → Type 0
+Missed t r p = isNothing (best (struck t r) (hitTime t r) p) ≡ true
+
+module _ (is : ℕ → Bool) (time : ℕ → Float) where
+  pub none-yet : isNothing (best is time 0) ≡ true
+  unfolding best isNothing
+  none-yet = refl
+
+  pub none-more : (p : ℕ) (b : Bool) → isNothing (best is time p) ≡ true → b ≡ is p → b ≡ false → isNothing (best is time (p + 1)) ≡ true
+  unfolding best
+  none-more p b h e f = rw (add-one, ← e, f) h
+
+  -- what is struck stays so, whatever comes after it
+  later : (p k : ℕ) → isNothing (best is time p) ≡ false → isNothing (best is time (p + k)) ≡ false
+  unfolding best isNothing
+  later p zero h = rw add-zero h
+  later p (suc k) h = ap (λ (n : ℕ). isNothing (best is time n)) (add-suc p k) ∙ further (p + k) (later p k h)
+    where
+      chosen : (b : Bool) (g h : Hit) → isNothing g ≡ false → isNothing h ≡ false → isNothing (cond b g h) ≡ false
+      chosen true g h x y = x
+      chosen false g h x y = y
+
+      further : (n : ℕ) → isNothing (best is time n) ≡ false → isNothing (best is time (suc n)) ≡ false
+      further n h = chosen (is n && improves (best is time n) (time n)) (At n (time n)) (best is time n) refl h
+
+  pub some-struck : (p n : ℕ) (b : Bool) → p < n → isNothing (best is time p) ≡ true → b ≡ is p → b ≡ true → false ≡ isNothing (best is time n)
+  unfolding best isNothing improves
+  some-struck p n b l h e f =
+      let far : (p + 1) + (n - (p + 1)) ≡ n = omega (arith, l) in
+      sym (ap (λ (k : ℕ). isNothing (best is time k)) (sym far) ∙ later (p + 1) (n - (p + 1)) (first (best is time p) refl h))
+    where
+      first : (g : Hit) → best is time p ≡ g → isNothing g ≡ true → isNothing (best is time (p + 1)) ≡ false
+      first Nothing q x = rw (add-one, ← e, f, q)
+      first (At k t) q x = absurd (contrary x refl)
 
 -- ---- `open_towards`: the ray m = dir * 1e-4 further on
-pub open-is : (t : Part) (p dir m o : Vec3) (h : Hit) (b : Bool) → m ≡ times dir e-4 → o ≡ plus p m → h ≡ hitOf t (record { origin = o; dir = dir }) →
-    b ≡ isNothing h → b ≡ isOpen t p dir
+pub open-is : (t : Part) (p dir m o : Vec3) (b : Bool) → m ≡ times dir e-4 → o ≡ plus p m → b ≡ isNothing (hitOf t (record { origin = o; dir = dir })) →
+    b ≡ isOpen t p dir
 unfolding isOpen rayFrom
-open-is t p dir m o h b em eo eh eb = eb ∙ ap isNothing eh ∙ rw (eo, em)
+open-is t p dir m o b em eo eb = eb ∙ rw (eo, em)

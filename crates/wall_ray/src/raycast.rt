@@ -1,11 +1,13 @@
 // The nearest polygon that a ray strikes.
 ghost use mathlib.Core.Path.{_≡_};
-ghost use Rattle.file_part.specs.Layout.{polygonCount};
+ghost use Prim.Native.Nat.{_<_};
+ghost use Rattle.file_part.specs.Layout.{vertexCount, polygonCount};
 ghost use Rattle.file_part.specs.Part.{partOf};
 ghost use Rattle.solid_faces.specs.Faces.{Checked};
 ghost use Rattle.solid_faces.specs.Kept.{KeptPlanes};
 ghost use Rattle.scratch.specs.Standing.{Standing};
-ghost use Rattle.wall_ray.specs.Nearest.{isOpen, Answer};
+ghost use Rattle.wall_ray.specs.Strike.{struck};
+ghost use Rattle.wall_ray.specs.Nearest.{hitOf, isNothing, isOpen, Answer};
 use crate::strike::Hit;
 use crate::strike::Ray;
 use crate::strike::is_reached;
@@ -63,6 +65,48 @@ pub fn raycast(file: &[u8], words: &[u32], reals: &[f64], at: Regions, ray: Ray)
     scan(file, &reals[start..areas], ray)
 }
 
+// Whether the ray strikes polygon p of a file with so many vertices.
+fn strikes(file: &[u8], planes: &[f64], ray: Ray, vertices: usize, p: usize) -> bool
+    requires { ⌜ Checked (now file) ⌝ ∗ ⌜ KeptPlanes (partOf (now file)) (polygonCount (now file)) (now planes) ⌝ ∗ ⌜ vertices ≡ vertexCount (now file) ⌝ ∗ ⌜ p < polygonCount (now file) ⌝ }
+    ensures { λ r. ⌜ r ≡ struck (partOf (now (file .entry))) ray p ⌝ }
+{
+    let plane = plane_at(planes, p);
+    let denom = plane.normal.dot(ray.dir);
+    let t = ray.time(plane, denom);
+    if !is_reached(denom, t, Hit::Nothing) {
+        return false;
+    }
+    let q = ray.point(t);
+    let entry = entry_at(vertices, p);
+    let first = first_vertex(file, entry);
+    let n = run_length(file, entry);
+    let mut k = 0usize;
+    while k < n {
+        if !is_within(file, first, n, plane.normal, q, k) {
+            return false;
+        }
+        k += 1;
+    }
+    true
+}
+
+// Whether the ray strikes nothing: the first polygon that it strikes decides.
+fn misses(file: &[u8], planes: &[f64], ray: Ray) -> bool
+    requires { ⌜ Checked (now file) ⌝ ∗ ⌜ KeptPlanes (partOf (now file)) (polygonCount (now file)) (now planes) ⌝ }
+    ensures { λ r. ⌜ r ≡ isNothing (hitOf (partOf (now (file .entry))) ray) ⌝ }
+{
+    let vertices = vertex_count(file);
+    let polygons = polygon_count(file);
+    let mut p = 0usize;
+    while p < polygons {
+        if strikes(file, planes, ray, vertices, p) {
+            return false;
+        }
+        p += 1;
+    }
+    true
+}
+
 // Whether a straight line from p along dir leaves the part without striking it.
 pub fn open_towards(
     file: &[u8],
@@ -79,5 +123,7 @@ pub fn open_towards(
         origin: p.add(dir.mul(1e-4)),
         dir: dir,
     };
-    raycast(file, words, reals, at, ray).is_nothing()
+    let start: usize = 0;
+    let areas = at.areas;
+    misses(file, &reals[start..areas], ray)
 }

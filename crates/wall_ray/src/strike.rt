@@ -10,7 +10,7 @@ ghost use Rattle.solid_polygon.specs.Polygon.{cornerAt};
 ghost use Rattle.solid_faces.specs.Kept.{planeAt};
 ghost use Rattle.wall_ray.specs.Corners.{Corners};
 ghost use Rattle.wall_ray.specs.Strike.{e-12, timeOf, pointOf, isWithin};
-ghost use Rattle.wall_ray.specs.Nearest.{improves, isNothing, polygonOr, timeOrZero};
+ghost use Rattle.wall_ray.specs.Nearest.{improves, polygonOr, timeOrZero};
 use crate::corner::corner;
 use math::Vec3;
 use solid_polygon::polygon::Plane;
@@ -76,15 +76,6 @@ impl Hit {
         match self {
             Hit::Nothing => true,
             Hit::At { polygon: _, t: s } => t < s,
-        }
-    }
-
-    pub fn is_nothing(self) -> bool
-        ensures { λ r. ⌜ r ≡ isNothing self ⌝ }
-    {
-        match self {
-            Hit::Nothing => true,
-            Hit::At { polygon: _, t: _ } => false,
         }
     }
 

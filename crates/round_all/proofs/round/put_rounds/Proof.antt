@@ -17,7 +17,7 @@ use Rattle.round_all.proofs.round.put_rounds.Statement.{statement}
 use Rattle.round_all.proofs.round.put_rounds.Tie as tie
 
 abbrev Inv-loop : tie.InvT-loop
-Inv-loop file words₀ reals₀ at n f₀ words reals f = (f ≤ n) × Outside 0 (at .kinds) (at .spare) words₀ words × Outside nan (at .rounds) (at .free) reals₀ reals × KeptKinds (partOf file) f (part (at .kinds) (at .spare) words) × KeptMeasures (partOf file) f (part (at .rounds) (at .directions) reals)
+Inv-loop file words₀ reals₀ at n f₀ words reals f = (f ≤ n) × Outside 0 (at .kinds) (at .ranks) words₀ words × Outside nan (at .rounds) (at .free) reals₀ reals × KeptKinds (partOf file) f (part (at .kinds) (at .ranks) words) × KeptMeasures (partOf file) f (part (at .rounds) (at .directions) reals)
 
 abbrev μ-loop : tie.MeasureT-loop
 μ-loop file words₀ reals₀ at n f₀ words reals f = n - f
@@ -45,7 +45,7 @@ returns c =
     let i = c .before .loop .inv in
     let all : c .before .loop .f ≡ facesOf (partOf (now (c .before .before .before .before .before .args .file))) = le-antisymm (i .0) (c .loop-test .left) ∙ c .before .before .before .before .before .pre .1 in (
       record {
-        kinds = subst (λ (k : ℕ). KeptKinds (partOf (now (c .before .before .before .before .before .args .file))) k (part (c .before .before .before .before .before .args .at .kinds) (c .before .before .before .before .before .args .at .spare) (c .before .loop .words))) all (i .3);
+        kinds = subst (λ (k : ℕ). KeptKinds (partOf (now (c .before .before .before .before .before .args .file))) k (part (c .before .before .before .before .before .args .at .kinds) (c .before .before .before .before .before .args .at .ranks) (c .before .loop .words))) all (i .3);
         measures = subst (λ (k : ℕ). KeptMeasures (partOf (now (c .before .before .before .before .before .args .file))) k (part (c .before .before .before .before .before .args .at .rounds) (c .before .before .before .before .before .args .at .directions) (c .before .loop .reals))) all (i .4);
       },
       (still _ _ _ _ (c .before .before .before .before .before .pre .0) _ _ (c .before .loop .inv .1) (c .before .loop .inv .2), (i .1, i .2)),

@@ -8,7 +8,7 @@ use lib.Seq.{length-take-le}
 use borrow.Rule.Slice.PartMut.{putMid}
 use Rattle.list_laws.proofs.Regions.{part-length, put-length}
 use Rattle.solid_faces.proofs.BodyLaws.{checked-readable}
-use Rattle.scratch.proofs.StandingLaws.{placed-polygons}
+use Rattle.scratch.proofs.StandingLaws.{placed-polygons, placed-vertices}
 use Rattle.scratch.proofs.WordsLaws.{words-put}
 use native.Mathlib.Omega.{arith}
 use Rattle.scratch.proofs.body.put_words.Statement.{statement}
@@ -84,7 +84,7 @@ returns c =
     let y = c .before .before .before .before .before .before in
     let lz = c .before .before .faces .kept .1 .0 ∙ part-length (c .before .before .before .before .before .before .before .before .before .before .before .before .before .before .args .at .faces) (c .before .before .before .before .before .before .before .before .before .before .before .before .before .before .args .at .readings) (two y) (omega (arith, c .before .before .before .before .before .before .before .before .before .before .before .before .before .before .pre .0 .laid, c .before .before .before .before .before .before .before .before .before .before .before .before .before .before .pre .1, two-long y)) in
     let put = words-put (c .before .before .before .before .before .before .before .before .before .before .before .before .before .before .args .at) (c .before .before .before .before .before .before .before .before .before .before .before .before .before .before .pre .0 .laid) (c .before .before .before .before .before .before .before .before .before .before .before .before .before .before .args .words .now) _ _ (c .before .before .faces .last .1 .0) (c .before .before .before .before .before .before .before .before .before .before .before .before .before .before .pre .1) (bodies-long (c .before .before .before .before .before .before .before .before .before .before)) (sides-long y) lz in
-    (c .before .before .faces .ensures .0, (put .0 _ (placed-polygons _ _ (c .before .before .before .before .before .before .before .before .before .before .before .before .before .before .pre .0)) (c .before .before .before .before .before .before .before .before .before .before .bodies .ensures) (c .before .before .before .before .before .before .shared-segments .ensures) (c .before .before .faces .ensures .1 .0), put .1))
+    (c .before .before .faces .ensures .0, (put .0 _ (placed-polygons _ _ (c .before .before .before .before .before .before .before .before .before .before .before .before .before .before .pre .0)) (placed-vertices _ _ (c .before .before .before .before .before .before .before .before .before .before .before .before .before .before .pre .0)) (c .before .before .before .before .before .before .before .before .before .before .bodies .ensures) (c .before .before .before .before .before .before .shared-segments .ensures) (c .before .before .faces .ensures .1 .0), put .1))
 
 pub put-words-spec : {M : Type 1} → statement M
 put-words-spec =

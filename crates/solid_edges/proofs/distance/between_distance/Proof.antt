@@ -6,7 +6,7 @@ use mathlib.Core.Logic.{⊎-elim}
 use Prim.Native.Nat.{_-_, _≤_}
 use Rattle.file_part.specs.Part.{partOf}
 use Rattle.solid_edges.specs.Edges.{isBetween}
-use Rattle.solid_edges.proofs.ScanLaws.{trailer}
+use Rattle.solid_ids.proofs.KnownLaws.{trailer}
 use Rattle.solid_edges.proofs.DistanceLaws.{LeastSquare, least-none, least-near, least-past, between-all}
 use borrow.Author.Needs.{needs}
 use Rattle.solid_edges.proofs.distance.between_distance.Statement.{statement}

@@ -8,9 +8,6 @@ use Rattle.solid_edges.proofs.distance.side_square.Tie as tie
 mul-cell : tie.Need-mul-cell
 mul-cell c = omega (arith, few-vertices (c .before .before .before .pre .0), c .before .before .before .pre .1)
 
-add-cell : tie.Need-add-cell
-add-cell c = omega (arith, few-vertices (c .before .before .before .pre .0), c .before .before .before .pre .1)
-
 cell-requires : tie.Need-cell-requires
 cell-requires c κs = omega (arith, side-room (c .before .before .before .pre .0) _ (c .before .before .before .pre .1))
 
@@ -46,7 +43,6 @@ side-square-spec =
     tie.close
     (tie.spec
     mul-cell
-    add-cell
     cell-requires
     vertex-requires
     vertex-requires-2

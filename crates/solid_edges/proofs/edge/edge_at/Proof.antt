@@ -1,6 +1,7 @@
 -- `solid_edges::edge::edge_at` meets its contract.
 use native.Mathlib.Omega.{arith}
-use Rattle.solid_edges.proofs.ScanLaws.{trailer, few-vertices}
+use Rattle.solid_edges.proofs.ScanLaws.{few-vertices}
+use Rattle.solid_ids.proofs.KnownLaws.{trailer}
 use Rattle.solid_edges.proofs.EdgeLaws.{edge-low, edge-many, edge-two}
 use Rattle.solid_edges.proofs.edge.edge_at.Statement.{statement}
 use Rattle.solid_edges.proofs.edge.edge_at.Tie as tie

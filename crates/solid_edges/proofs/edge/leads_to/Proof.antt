@@ -1,7 +1,8 @@
 -- `solid_edges::edge::leads_to` meets its contract.
 use native.Mathlib.Omega.{arith}
 use borrow.Author.Tests.{not-false}
-use Rattle.solid_edges.proofs.ScanLaws.{lent-readable, few-faces}
+use Rattle.solid_edges.proofs.ScanLaws.{lent-readable}
+use Rattle.solid_ids.proofs.KnownLaws.{few-faces}
 use Rattle.solid_edges.proofs.EdgeLaws.{near-few, beyond-few, leads-none, leads-beyond, leads-near, leads-past}
 use Rattle.solid_edges.proofs.edge.leads_to.Statement.{statement}
 use Rattle.solid_edges.proofs.edge.leads_to.Tie as tie

@@ -2,7 +2,7 @@
 use native.Mathlib.Omega.{arith}
 use Prim.Native.Nat.{_-_, _≤_}
 use Rattle.file_part.specs.Part.{partOf}
-use Rattle.solid_edges.proofs.ScanLaws.{trailer}
+use Rattle.solid_ids.proofs.KnownLaws.{trailer}
 use Rattle.solid_edges.proofs.NeighbourLaws.{NoneBetween, between-start, between-more, between-found, between-end}
 use borrow.Author.Needs.{needs}
 use Rattle.solid_edges.proofs.neighbours.first_between.Statement.{statement}

@@ -5,7 +5,8 @@ use Prim.Native.Nat.{_-_, _≤_}
 use Rattle.file_part.specs.Part.{partOf}
 use Rattle.solid_faces.specs.Faces.{facesOf}
 use Rattle.solid_edges.specs.Neighbours.{neighbourTo}
-use Rattle.solid_edges.proofs.ScanLaws.{lent-readable, trailer}
+use Rattle.solid_ids.proofs.KnownLaws.{trailer}
+use Rattle.solid_edges.proofs.ScanLaws.{lent-readable}
 use Rattle.solid_edges.proofs.EdgeLaws.{leads-within}
 use Rattle.solid_edges.proofs.NeighbourLaws.{better-within, neighbour-none, neighbour-more, neighbour-all}
 use borrow.Author.Needs.{needs}

@@ -1,8 +1,8 @@
--- `solid_edges::neighbours::face_before` meets its contract.
-use Rattle.solid_edges.specs.Neighbours.{faceBefore}
+-- `solid_ids::face_before` meets its contract.
+use Rattle.solid_ids.specs.Ids.{faceBefore}
 use borrow.Author.Needs.{needs}
-use Rattle.solid_edges.proofs.neighbours.face_before.Statement.{statement}
-use Rattle.solid_edges.proofs.neighbours.face_before.Tie as tie
+use Rattle.solid_ids.proofs.face_before.Statement.{statement}
+use Rattle.solid_ids.proofs.face_before.Tie as tie
 
 id-of-requires : tie.Need-id-of-requires
 id-of-requires c κs = (c .before .before .pre .0, c .before .before .pre .1 .0)

@@ -1,8 +1,8 @@
--- `solid_edges::neighbours::id_of` meets its contract.
+-- `solid_ids::id_of` meets its contract.
 use native.Mathlib.Omega.{arith}
-use Rattle.solid_edges.proofs.ScanLaws.{trailer, first-fits, first-room, first-entry, id-is}
-use Rattle.solid_edges.proofs.neighbours.id_of.Statement.{statement}
-use Rattle.solid_edges.proofs.neighbours.id_of.Tie as tie
+use Rattle.solid_ids.proofs.KnownLaws.{trailer, first-fits, first-room, first-entry, id-is}
+use Rattle.solid_ids.proofs.id_of.Statement.{statement}
+use Rattle.solid_ids.proofs.id_of.Tie as tie
 
 vertex-count-requires : tie.Need-vertex-count-requires
 vertex-count-requires c κs = trailer (c .before .before .pre .0)

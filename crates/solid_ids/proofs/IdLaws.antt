@@ -12,7 +12,7 @@ use Rattle.file_part.specs.declared.read.FaceId.{FaceId}
 use Rattle.file_part.specs.Part.{Part}
 use Rattle.solid_faces.specs.Faces.{isNew, faceCount, facesOf, faceNumber, firstPolygon}
 use Rattle.solid_faces.proofs.FaceLaws.{is-same, count-start, count-new, count-old, number-new, number-same, first-polygon-new}
-use Rattle.solid_edges.specs.Neighbours.{idBefore, idOf, faceBefore}
+use Rattle.solid_ids.specs.Ids.{idBefore, idOf, faceBefore}
 
 -- ---- the polygon that begins face g
 pub record Begins (t : Part) (n g p : ℕ) : Type 0 where

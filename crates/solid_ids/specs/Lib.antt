@@ -1,0 +1,2 @@
+-- The ids of faces, and their order.
+pub mod Ids
