@@ -1,11 +1,12 @@
 -- The parts of a list when one of them is put back: what a slice holds after one of its parts was lent and changed.
-use Prim.Native.Nat.{ℕ, _≤_, _<_, _+_, _-_}
+use Prim.Native.Nat.{ℕ, suc, _≤_, _<_, _+_, _-_}
+use native.Mathlib.Numerals.{add-one}
 use native.Mathlib.Omega.{arith}
 use mathlib.Core.Path.{_≡_, sym, ap, _∙_, subst}
 use mathlib.Core.Logic.{_⊎_, inl, inr}
-use mathlib.Core.List.{List, _++_}
+use mathlib.Core.List.{List, [], _∷_, _++_}
 use lib.ListN.{length, getD, set, length-set, take, drop, length-drop, take-append-drop, List·getD-append}
-use lib.Seq.{ext-getD, getD-set-same, getD-set-other, length-take-le, take-at, drop-at, take-append-le, drop-append-le, drop-drop, getD-take, getD-drop, getD-append-add}
+use lib.Seq.{drop-cons, take-suc, ext-getD, getD-set-same, getD-set-other, length-take-le, take-at, drop-at, take-append-le, drop-append-le, drop-drop, getD-take, getD-drop, getD-append-add}
 use borrow.Rule.Slice.PartMut.{putMid, drop-put, mid-len, same-len-mid}
 use Rattle.num_float.proofs.Tests.{lt-or-ge}
 use Rattle.list_laws.specs.Region.{part}
@@ -85,3 +86,20 @@ part-set a e s i x low room =
         let here : i ≡ j = omega (arith, l, g) in
         subst (λ (k : ℕ). getD (set s (a + i) x) (a + k) x ≡ getD (set (part a e s) i x) k x) here
         (getD-set-same s (a + i) x x (omega (arith, low, room)) ∙ sym (getD-set-same (part a e s) i x x (omega (arith, low, part-length a e s room))))
+
+-- one element more
+pub part-more : {X : Type 0} (s : List X) (d : X) (a e : ℕ) → a ≤ e → e < length s → part a (e + 1) s ≡ part a e s ++ (getD s e d ∷ [])
+part-more {X} s d a e l h =
+    let next : e + 1 - a ≡ suc (e - a) = omega (arith, l) in
+    let here : a + (e - a) ≡ e = omega (arith, l) in
+    ap (λ (k : ℕ). take k (drop a s)) next
+    ∙ take-suc (drop a s) (e - a) d (omega (arith, length-drop a s, l, h))
+    ∙ ap (λ (x : X). part a e s ++ (x ∷ [])) (getD-drop a s (e - a) d ∙ ap (λ (k : ℕ). getD s k d) here)
+
+-- the first element, and the rest
+pub part-first : {X : Type 0} (s : List X) (d : X) (a e : ℕ) → a < e → e ≤ length s → part a e s ≡ getD s a d ∷ part (a + 1) e s
+part-first s d a e l h =
+    let size : e - a ≡ suc (e - (a + 1)) = omega (arith, l) in
+    ap (λ (k : ℕ). take k (drop a s)) size
+    ∙ ap (take (suc (e - (a + 1)))) (drop-cons s a d (omega (arith, l, h)))
+    ∙ ap (λ (k : ℕ). getD s a d ∷ take (e - (a + 1)) (drop k s)) (sym (add-one a))

@@ -29,17 +29,14 @@ use Rattle.solid_segments.specs.Sides.{toOf}
 use Rattle.solid_distance.specs.Segment.{nearestOn, segDistance}
 use Rattle.solid_edges.specs.Distance.{sideDistance, sideSquare, distanceTo, edgeDistance, betweenDistance}
 use Rattle.solid_edges.specs.Edges.{isEdgeOf, isBetween}
-use Rattle.solid_edges.specs.Scan.{Lent}
-use Rattle.solid_edges.proofs.ScanLaws.{end-is}
 
 -- ---- one side
-pub square-is : {file sides faces : List ℕ} → Lent file sides faces → (s : ℕ) → s < vertexCount file → (to : ℕ) (p a b n d : Vec3) (r : Float) →
-    to ≡ getD sides (s * 3) 0 → a ≡ vecAt file (24 * s) → b ≡ vecAt file (24 * to) → n ≡ nearestOn p a b → d ≡ minus n p → r ≡ lengthSqOf d →
-    r ≡ sideSquare (partOf file) p s
+pub square-is : (file : List ℕ) (s to : ℕ) (p a b n d : Vec3) (r : Float) → to ≡ toOf (partOf file) s → a ≡ vecAt file (24 * s) → b ≡ vecAt file (24 * to) →
+    n ≡ nearestOn p a b → d ≡ minus n p → r ≡ lengthSqOf d → r ≡ sideSquare (partOf file) p s
 unfolding sideSquare
-square-is {file} lent s low to p a b n d r e x y q m h =
+square-is file s to p a b n d r e x y q m h =
     let from : a ≡ partOf file .vertex s = x ∙ sym (part-vertex file s) in
-    let far : b ≡ partOf file .vertex (toOf (partOf file) s) = y ∙ sym (part-vertex file to) ∙ ap (λ (k : ℕ). partOf file .vertex k) (end-is lent s low to e) in
+    let far : b ≡ partOf file .vertex (toOf (partOf file) s) = y ∙ sym (part-vertex file to) ∙ ap (λ (k : ℕ). partOf file .vertex k) e in
     h ∙ rw (m, q, from, far)
 
 root-square : (t : Part) (p : Vec3) (s : ℕ) → sideDistance t p s ≡ root (sideSquare t p s)

@@ -15,7 +15,8 @@ use Rattle.file_ok.specs.Verdict.{Readable}
 use Rattle.file_part.proofs.PartLaws.{part-vertices, part-polygons}
 use Rattle.file_ok.proofs.ReadableLaws.{readable-length, readable-counts, readable-whole}
 use Rattle.solid_segments.specs.Sides.{ownerOf, toOf}
-use Rattle.solid_segments.proofs.RunLaws.{owner-is, to-inside}
+use Rattle.solid_segments.proofs.RunLaws.{to-inside}
+use Rattle.solid_segments.proofs.RunLaws as runs
 use Rattle.solid_faces.specs.Faces.{facesOf, faceNumber}
 use Rattle.solid_faces.proofs.FaceLaws.{number-below}
 use Rattle.solid_ids.proofs.KnownLaws.{known-readable}
@@ -54,7 +55,7 @@ run-of file h s l = in-run file s (polygonCount file) (omega arith) (omega (arit
 pub owner-below : (file : List ℕ) → Readable file → (s : ℕ) → s < vertexCount file → ownerOf (partOf file) s < polygonCount file
 owner-below file h s l =
     let r = run-of file h s l in
-    omega (arith, r .below, owner-is file h (r .polygon) s (r .below) (r .from) (r .to))
+    omega (arith, r .below, runs.owner-is file h (r .polygon) s (r .below) (r .from) (r .to))
 
 pub end-below : (file : List ℕ) → Readable file → (s : ℕ) → s < vertexCount file → toOf (partOf file) s < vertexCount file
 end-below file h s l =
@@ -99,6 +100,9 @@ module _ {file sides faces : List ℕ} (lent : Lent file sides faces) (s : ℕ) 
 
   owner-in : (p : ℕ) → p ≡ getD sides (s * 3 + 1) 0 → p < t .polygons
   owner-in p e = omega (arith, e, lent .shared .owners s side-in, owner-below file (lent-readable lent) s low, part-polygons file)
+
+  pub owner-is : (p : ℕ) → p ≡ getD sides (s * 3 + 1) 0 → (p ≡ ownerOf t s) × (p < polygonCount file)
+  owner-is p e = (e ∙ lent .shared .owners s side-in, omega (arith, owner-in p e, part-polygons file))
 
   pub owner-room : (p : ℕ) → p ≡ getD sides (s * 3 + 1) 0 → p < length faces
   owner-room p e = omega (arith, owner-in p e, lent .faced .long)

@@ -6,11 +6,11 @@ ghost use Rattle.file_part.specs.Layout.{vertexCount};
 ghost use Rattle.file_part.specs.Part.{partOf};
 ghost use Rattle.solid_edges.specs.Distance.{sideSquare, edgeDistance, betweenDistance};
 ghost use Rattle.solid_edges.specs.Scan.{Lent};
+use crate::edge::end_at;
 use crate::edge::is_between;
 use crate::edge::is_edge_of;
 use file_part::read::vertex;
 use file_part::read::vertex_count;
-use list_cells::cell;
 use math::Vec3;
 use solid_distance::segment::nearest_on;
 
@@ -19,7 +19,7 @@ fn side_square(file: &[u8], sides: &[u32], faces: &[u32], p: Vec3, s: usize) -> 
     requires { ⌜ Lent (now file) (now sides) (now faces) ⌝ ∗ ⌜ s < vertexCount (now file) ⌝ }
     ensures { λ r. ⌜ r ≡ sideSquare (partOf (now (file .entry))) p s ⌝ }
 {
-    let to = cell(sides, s * 3);
+    let to = end_at(file, sides, faces, s);
     nearest_on(p, vertex(file, s), vertex(file, to))
         .sub(p)
         .length_sq()

@@ -1,8 +1,9 @@
 // Whether a side is an edge, and between which faces.
 ghost use mathlib.Core.Path.{_≡_};
 ghost use Prim.Native.Nat.{_<_};
-ghost use Rattle.file_part.specs.Layout.{vertexCount};
+ghost use Rattle.file_part.specs.Layout.{vertexCount, polygonCount};
 ghost use Rattle.file_part.specs.Part.{partOf};
+ghost use Rattle.solid_segments.specs.Sides.{ownerOf, toOf};
 ghost use Rattle.solid_edges.specs.Edges.{pairIn, faceOfSide, isEdgeOf, isBetween, leadsTo, EdgeIs};
 ghost use Rattle.solid_edges.specs.Scan.{Lent};
 use file_part::read::vertex_count;
@@ -16,11 +17,27 @@ pub struct Edge {
 }
 
 // The pair of side s. (Here and below the file is lent for its meaning: the slices hold what was found in it.)
-fn pair_at(file: &[u8], sides: &[u32], faces: &[u32], s: usize) -> usize
+pub fn pair_at(file: &[u8], sides: &[u32], faces: &[u32], s: usize) -> usize
     requires { ⌜ Lent (now file) (now sides) (now faces) ⌝ ∗ ⌜ s < vertexCount (now file) ⌝ }
     ensures { λ r. ⌜ r ≡ pairIn (partOf (now (file .entry))) s ⌝ }
 {
     cell(sides, s * 3 + 2)
+}
+
+// The polygon of side s.
+pub fn owner_at(file: &[u8], sides: &[u32], faces: &[u32], s: usize) -> usize
+    requires { ⌜ Lent (now file) (now sides) (now faces) ⌝ ∗ ⌜ s < vertexCount (now file) ⌝ }
+    ensures { λ r. ⌜ r ≡ ownerOf (partOf (now (file .entry))) s ⌝ ∗ ⌜ r < polygonCount (now (file .entry)) ⌝ }
+{
+    cell(sides, s * 3 + 1)
+}
+
+// The vertex where side s ends.
+pub fn end_at(file: &[u8], sides: &[u32], faces: &[u32], s: usize) -> usize
+    requires { ⌜ Lent (now file) (now sides) (now faces) ⌝ ∗ ⌜ s < vertexCount (now file) ⌝ }
+    ensures { λ r. ⌜ r ≡ toOf (partOf (now (file .entry))) s ⌝ ∗ ⌜ r < vertexCount (now (file .entry)) ⌝ }
+{
+    cell(sides, s * 3)
 }
 
 // The face of side s.

@@ -1,0 +1,52 @@
+-- The rows that rules put: the fault that each kind of row is, and that it is good. Unused numbers are 0.0, unused words 0.
+use mathlib.Core.Path.{_≡_, refl, ap, _∙_}
+use Prim.Native.Nat.{ℕ, _≤_, _<_}
+use native.Mathlib.Omega.{arith}
+use lib.Ieee.{Float}
+use Rattle.math.specs.Vector.{zero}
+use Rattle.file_part.specs.Part.{Part}
+use Rattle.solid_faces.specs.Faces.{facesOf}
+use Rattle.fault_row.specs.declared.fault.Severity.{Severity}
+use Rattle.fault_row.specs.Names.{severityRank, severityOf}
+use Rattle.fault_row.specs.Row.{row}
+use Rattle.fault_row.proofs.NameLaws.{severity-of}
+use Rattle.fault_text.specs.Kind.{thinWall, smallHole, deepHoleMax, deepHoleStandard, tightInsideRadius, deepInsideCorner, sharpInsideCorner, lastKind, ruleOf}
+use Rattle.fault_text.specs.Machining.{thinWallFault, smallHoleFault, deepHoleMaxFault, deepHoleStandardFault, tightInsideRadiusFault, deepInsideCornerFault, sharpInsideCornerFault}
+use Rattle.fault_text.specs.Meaning.{textOf, facesOfRow, faultOf, GoodRow}
+
+module _ (t : Part) where
+  -- n is the rank of the severity
+  pub thin-wall-row : (s : Severity) (n f g : ℕ) (x : Float) → n ≡ severityRank s → faultOf t (row thinWall n 1 f g 0 x zero zero) ≡ thinWallFault t s f g x
+  unfolding faultOf ruleOf textOf facesOfRow thinWallFault
+  thin-wall-row s n f g x e = ap (λ (v : Severity). thinWallFault t v f g x) (ap severityOf e ∙ severity-of s)
+
+  pub small-hole-row : (f : ℕ) (d : Float) → faultOf t (row smallHole 1 1 f 0 0 d zero zero) ≡ smallHoleFault t f d
+  unfolding faultOf severityOf ruleOf textOf facesOfRow smallHoleFault
+  small-hole-row f d = refl
+
+  pub deep-hole-max-row : (f : ℕ) (ratio d length : Float) → faultOf t (row deepHoleMax 1 1 f 0 0 ratio d length) ≡ deepHoleMaxFault t f ratio d length
+  unfolding faultOf severityOf ruleOf textOf facesOfRow deepHoleMaxFault
+  deep-hole-max-row f ratio d length = refl
+
+  pub deep-hole-standard-row : (f : ℕ) (ratio : Float) → faultOf t (row deepHoleStandard 2 1 f 0 0 ratio zero zero) ≡ deepHoleStandardFault t f ratio
+  unfolding faultOf severityOf ruleOf textOf facesOfRow deepHoleStandardFault
+  deep-hole-standard-row f ratio = refl
+
+  pub tight-inside-radius-row : (f : ℕ) (radius : Float) → faultOf t (row tightInsideRadius 1 1 f 0 0 radius zero zero) ≡ tightInsideRadiusFault t f radius
+  unfolding faultOf severityOf ruleOf textOf facesOfRow tightInsideRadiusFault
+  tight-inside-radius-row f radius = refl
+
+  pub deep-inside-corner-row : (f : ℕ) (ratio radius length : Float) →
+      faultOf t (row deepInsideCorner 1 1 f 0 0 ratio radius length) ≡ deepInsideCornerFault t f ratio radius length
+  unfolding faultOf severityOf ruleOf textOf facesOfRow deepInsideCornerFault
+  deep-inside-corner-row f ratio radius length = refl
+
+  pub sharp-inside-corner-row : (f g : ℕ) (length fillet : Float) →
+      faultOf t (row sharpInsideCorner 1 1 f g 0 length fillet zero) ≡ sharpInsideCornerFault t f g length fillet
+  unfolding faultOf severityOf ruleOf textOf facesOfRow sharpInsideCornerFault
+  sharp-inside-corner-row f g length fillet = refl
+
+  pub good-row : (kind severity a b : ℕ) (x y z : Float) → 1 ≤ kind → kind ≤ lastKind → severity < 3 → a < facesOf t → b < facesOf t →
+      GoodRow t (row kind severity 1 a b 0 x y z)
+  good-row kind severity a b x y z from to s fa fb =
+      record { kind-from = from; kind-to = to; severity-to = s; count-from = omega arith; count-to = omega arith; a-there = fa; b-there = fb; standing = refl }

@@ -1,0 +1,6 @@
+// What a fault row means: the kinds of rows, and the message of each.
+pub mod job;
+pub mod kind;
+pub mod machining;
+pub mod message;
+pub mod text;

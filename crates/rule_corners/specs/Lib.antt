@@ -1,0 +1,4 @@
+-- Inside corners between flat faces.
+pub mod Corners
+pub mod Kept
+pub mod Work

@@ -1,0 +1,3 @@
+// Inside corners between flat faces (dfm.rs's `corners`), by their pairs of faces, in the lent scratch.
+pub mod corner;
+mod segment;

@@ -1,0 +1,3 @@
+-- Items by their pairs of faces.
+pub mod Pairs
+pub mod Kept

@@ -1,0 +1,4 @@
+-- The thickness readings by their pairs of faces.
+pub mod Walls
+pub mod Kept
+pub mod Work
