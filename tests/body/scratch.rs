@@ -9,6 +9,16 @@ pub trait Cell: Copy {
     fn same(self, other: Self) -> bool;
 }
 
+impl Cell for u8 {
+    fn from_bits(bits: u64) -> u8 {
+        bits as u8
+    }
+
+    fn same(self, other: u8) -> bool {
+        self == other
+    }
+}
+
 impl Cell for u32 {
     fn from_bits(bits: u64) -> u32 {
         bits as u32

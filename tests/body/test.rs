@@ -10,6 +10,8 @@ mod random;
 mod reader;
 #[path = "../part/sample.rs"]
 mod sample;
+#[path = "../lib/stream.rs"]
+mod stream;
 #[path = "../lib/tally.rs"]
 mod tally;
 
@@ -26,7 +28,7 @@ mod shapes;
 use compare::{Compare, Seen};
 use mesh::Mesh;
 use random::Random;
-use std::io::{self, Read};
+use std::io;
 use std::thread;
 
 /// Of accepted generated files, and of all that is to occur.
@@ -59,24 +61,20 @@ fn main() {
     std::process::exit((different != 0 || few) as i32);
 }
 
-/// Files from standard input, each after its length (u32, little-endian), as they are and changed. How many were accepted as they are.
+/// Generated files, as they are and changed. How many were accepted as they are.
 fn from_input(c: &mut Compare) -> io::Result<u64> {
-    let mut input = io::BufReader::with_capacity(1 << 20, io::stdin());
     let mut random = Random(5);
-    let mut length = [0; 4];
-    let (mut number, mut accepted) = (0, 0);
-    while input.read_exact(&mut length).is_ok() {
-        let mut file = vec![0; u32::from_le_bytes(length) as usize];
-        input.read_exact(&mut file)?;
-        if c.check(&file, || format!("generated file {number}")) == 0 {
-            accepted += 1;
-            if file.len() < LARGE {
-                let changed = change::changed(&mut random, &Mesh::read(&file));
-                c.check(&changed.bytes(), || format!("generated file {number}, changed"));
-            }
+    let mut accepted = 0;
+    stream::each(|number, file| {
+        if c.check(file, || format!("generated file {number}")) != 0 {
+            return;
         }
-        number += 1;
-    }
+        accepted += 1;
+        if file.len() < LARGE {
+            let changed = change::changed(&mut random, &Mesh::read(file));
+            c.check(&changed.bytes(), || format!("generated file {number}, changed"));
+        }
+    })?;
     Ok(accepted)
 }
 

@@ -84,6 +84,28 @@ mod c {
             times: *mut f64,
             times_len: usize,
         ) -> u32;
+        pub fn gablemadder_machining(
+            file: *const u8,
+            len: usize,
+            words: *mut u32,
+            words_len: usize,
+            reals: *mut f64,
+            reals_len: usize,
+            cells: *mut u32,
+            cells_len: usize,
+            numbers: *mut f64,
+            numbers_len: usize,
+        ) -> u32;
+        pub fn gablemadder_message(
+            file: *const u8,
+            len: usize,
+            cells: *const u32,
+            cells_len: usize,
+            numbers: *const f64,
+            numbers_len: usize,
+            out: *mut u8,
+            out_len: usize,
+        ) -> usize;
     }
 }
 
@@ -204,4 +226,17 @@ pub fn rough(file: &[u8], words: &mut [u32], reals: &mut [f64], out: &mut [f64])
 pub fn open_towards(file: &[u8], words: &mut [u32], reals: &mut [f64], rays: &[f64], cells: &mut [u32]) -> u32 {
     let (w, f, r, o) = (words.as_mut_ptr(), reals.as_mut_ptr(), rays.as_ptr(), cells.as_mut_ptr());
     unsafe { c::gablemadder_open_towards(file.as_ptr(), file.len(), w, words.len(), f, reals.len(), r, rays.len(), o, cells.len()) }
+}
+
+/// The refusal from 1 to 10; or 1000 and the number of faults by the rules of machining, of which as many as there are rows for, and at most 2,048,
+/// are put: six cells for each (kind, severity, count, two faces, waived), and three numbers for each.
+pub fn machining(file: &[u8], words: &mut [u32], reals: &mut [f64], cells: &mut [u32], numbers: &mut [f64]) -> u32 {
+    let (w, r, c, n) = (words.as_mut_ptr(), reals.as_mut_ptr(), cells.as_mut_ptr(), numbers.as_mut_ptr());
+    unsafe { c::gablemadder_machining(file.as_ptr(), file.len(), w, words.len(), r, reals.len(), c, cells.len(), n, numbers.len()) }
+}
+
+/// The length of the text of a fault's row; what of it falls past the end of `out` is not written.
+pub fn message(file: &[u8], cells: &[u32], numbers: &[f64], out: &mut [u8]) -> usize {
+    let (c, n, o) = (cells.as_ptr(), numbers.as_ptr(), out.as_mut_ptr());
+    unsafe { c::gablemadder_message(file.as_ptr(), file.len(), c, cells.len(), n, numbers.len(), o, out.len()) }
 }

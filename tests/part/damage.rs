@@ -3,29 +3,22 @@ use crate::compare::Compare;
 use crate::field::{set, set_bits, set_real, set_word, values, word, Blocks, ODD};
 use crate::random::Random;
 use crate::sample::entry;
-use std::io::{self, Read};
+use crate::stream;
+use std::io;
 
-/// The files come from standard input, each after its length (u32, little-endian).
 pub fn run(c: &mut Compare, copies: u64) -> io::Result<()> {
-    let mut input = io::BufReader::with_capacity(1 << 20, io::stdin());
     let mut random = Random(2);
-    let mut length = [0; 4];
-    let mut number = 0;
-    while input.read_exact(&mut length).is_ok() {
-        let mut file = vec![0; u32::from_le_bytes(length) as usize];
-        input.read_exact(&mut file)?;
-        c.check(&file, || format!("generated file {number}"));
+    stream::each(|number, file| {
+        c.check(file, || format!("generated file {number}"));
         // the largest cost most and show least
         for copy in 0..if file.len() < 100_000 { copies } else { 1 } {
-            let mut damaged = file.clone();
+            let mut damaged = file.to_vec();
             for _ in 0..[1, 1, 2, 3][random.below(4) as usize] {
                 damage(&mut random, &mut damaged);
             }
             c.check(&damaged, || format!("generated file {number}, copy {copy}"));
         }
-        number += 1;
-    }
-    Ok(())
+    })
 }
 
 pub fn damage(random: &mut Random, file: &mut Vec<u8>) {

@@ -118,6 +118,10 @@ pub fn word(file: &[u8], at: usize) -> u32 {
     u32::from_le_bytes(file[at..at + 4].try_into().unwrap())
 }
 
+pub fn real(file: &[u8], at: usize) -> f64 {
+    f64::from_le_bytes(file[at..at + 8].try_into().unwrap())
+}
+
 pub fn set_word(file: &mut [u8], at: usize, n: u32) {
     file[at..at + 4].copy_from_slice(&n.to_le_bytes());
 }

@@ -4,6 +4,8 @@
 mod gablemadder;
 #[path = "../lib/random.rs"]
 mod random;
+#[path = "../lib/stream.rs"]
+mod stream;
 #[path = "../lib/tally.rs"]
 mod tally;
 

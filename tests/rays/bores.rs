@@ -44,7 +44,7 @@ impl Frame {
         Frame { origin: [0.0; 3], x, y: cross(z, x), z }
     }
 
-    fn at(&self, x: f64, y: f64, z: f64) -> Point {
+    pub fn at(&self, x: f64, y: f64, z: f64) -> Point {
         [0, 1, 2].map(|k| self.origin[k] + self.x[k] * x + self.y[k] * y + self.z[k] * z)
     }
 

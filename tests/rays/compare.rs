@@ -4,7 +4,8 @@ use crate::aim;
 use crate::found::{self, Reading, Round, CONCAVE, CONVEX, HOLE};
 use crate::gablemadder;
 use crate::layout::Layout;
-use crate::listed::{Kept, Listed};
+use crate::lent::Lent;
+use crate::listed::Kept;
 use crate::mesh::{Mesh, Point};
 use crate::random::Random;
 use crate::regions::{same, Regions};
@@ -50,7 +51,7 @@ pub struct Compare {
     reals: Scratch<f64>,
     polygons: Scratch<u32>,
     times: Scratch<f64>,
-    listed: Listed,
+    listed: Lent,
     lent: Vec<u8>,
 }
 
@@ -98,7 +99,7 @@ impl Compare {
             reals: Scratch::new(),
             polygons: Scratch::new(),
             times: Scratch::new(),
-            listed: Listed::new(seed ^ 0x5eed),
+            listed: Lent::new(seed ^ 0x5eed),
             lent: Vec::new(),
         }
     }

@@ -3,9 +3,8 @@
 use crate::found::{self, Bits, Reading, Round, CONVEX, HOLE};
 use crate::gablemadder;
 use crate::layout::Layout;
-use crate::random::Random;
+use crate::lent::Lent;
 use crate::regions::{same, Regions};
-use crate::scratch::{is_refusal, Scratch};
 
 /// All that is said of a reading; faces by their numbers.
 #[derive(Clone, Copy)]
@@ -67,32 +66,7 @@ impl List {
     }
 }
 
-pub struct Listed {
-    random: Random,
-    words: Scratch<u32>,
-    reals: Scratch<f64>,
-    cells: Scratch<u32>,
-    numbers: Scratch<f64>,
-}
-
-impl Listed {
-    pub fn new(seed: u64) -> Listed {
-        Listed { random: Random(seed), words: Scratch::new(), reals: Scratch::new(), cells: Scratch::new(), numbers: Scratch::new() }
-    }
-
-    fn lend(&mut self, (words, reals): (usize, usize), (cells, numbers): (usize, usize), small: usize) {
-        let kinds = [0; 4].map(|_| self.random.below(4) as usize);
-        self.words.lend(words, kinds[0], small, &mut self.random);
-        self.reals.lend(reals, kinds[1], small, &mut self.random);
-        self.cells.lend(cells, kinds[2], small, &mut self.random);
-        self.numbers.lend(numbers, kinds[3], small, &mut self.random);
-    }
-
-    fn is_refusal(&self, call: &str, ours: u32, number: u32) -> Result<(), String> {
-        let scratch = self.words.is_unchanged() && self.reals.is_unchanged();
-        is_refusal(call, ours, number, scratch && self.cells.is_unchanged() && self.numbers.is_unchanged())
-    }
-
+impl Lent {
     /// Refusals 1 to 9 come before 10, so what is lent may be anything.
     pub fn refused(&mut self, file: &[u8], number: u32) -> Result<(), String> {
         let n = self.random.below(64) as usize;

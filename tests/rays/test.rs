@@ -10,6 +10,8 @@ mod field;
 mod gablemadder;
 #[path = "../body/layout.rs"]
 mod layout;
+#[path = "../lib/lent.rs"]
+mod lent;
 #[path = "../body/mesh.rs"]
 mod mesh;
 #[path = "../lib/random.rs"]
@@ -24,6 +26,8 @@ mod sample;
 mod scratch;
 #[path = "../body/shapes.rs"]
 mod shapes;
+#[path = "../lib/stream.rs"]
+mod stream;
 #[path = "../lib/tally.rs"]
 mod tally;
 
@@ -40,7 +44,7 @@ mod walls;
 use compare::{Compare, Seen};
 use mesh::Mesh;
 use random::Random;
-use std::io::{self, Read};
+use std::io;
 use std::thread;
 use tried::Noted;
 
@@ -74,22 +78,15 @@ fn main() {
     std::process::exit((different != 0 || few) as i32);
 }
 
-/// Files from standard input, each after its length (u32, little-endian), as they are and now and then changed.
+/// Generated files, as they are and now and then changed.
 fn from_input(c: &mut Compare) -> io::Result<()> {
-    let mut input = io::BufReader::with_capacity(1 << 20, io::stdin());
     let mut random = Random(15);
-    let mut length = [0; 4];
-    let mut number = 0;
-    while input.read_exact(&mut length).is_ok() {
-        let mut file = vec![0; u32::from_le_bytes(length) as usize];
-        input.read_exact(&mut file)?;
-        if c.check(&file, || format!("generated file {number}")) == 0 && file.len() < LARGE && random.below(4) == 0 {
-            let changed = change::changed(&mut random, &Mesh::read(&file));
+    stream::each(|number, file| {
+        if c.check(file, || format!("generated file {number}")) == 0 && file.len() < LARGE && random.below(4) == 0 {
+            let changed = change::changed(&mut random, &Mesh::read(file));
             c.check(&changed.bytes(), || format!("generated file {number}, changed"));
         }
-        number += 1;
-    }
-    Ok(())
+    })
 }
 
 fn own_shapes(c: &mut Compare, count: u64) {

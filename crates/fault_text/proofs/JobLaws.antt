@@ -4,9 +4,13 @@ use mathlib.Core.Bool.{Bool, true, false, _&&_, cond}
 use mathlib.Core.List.{List}
 use Prim.Native.Nat.{ℕ, _+_, _-_, _≤_}
 use native.Mathlib.Omega.{arith}
+use lib.Dec.{lit<}
 use lib.ListN.{length, take, drop, length-take}
-use lib.Ieee.{Float, lt}
-use Rattle.num_float.proofs.Order.{lt-irrefl}
+use lib.Ieee.{Float, ofBits, le, lt, eq}
+use Rattle.num_float.specs.Within.{Within}
+use Rattle.num_float.proofs.Order.{lt-irrefl, lt-le}
+use Rattle.num_text.specs.Decimal.{accepted}
+use Rattle.num_text.proofs.NeverRefused.{accepted-at}
 use Rattle.math.specs.Vector.{zero}
 use Rattle.list_laws.specs.Region.{part}
 use Rattle.file_job.specs.declared.Job.{Job}
@@ -89,3 +93,21 @@ unfolding nameAt jobAt materialAt
 name-short s h =
     let n = readable-job s (checked-readable s h) .the-material .length-to in
     rw (part-name s) (simp length-take (omega (arith, n)))
+
+-- ---- the thinnest wall of an accepted file is a number that is printed
+default-accepted : accepted defaultMinWall 2 ≡ true
+unfolding accepted ofBits le lt eq
+default-accepted = refl
+
+pub min-wall-accepted : (s : List ℕ) → Checked s → accepted (minWall (partOf s)) 2 ≡ true
+unfolding minWall
+min-wall-accepted s h =
+    let m = readable-job s (checked-readable s h) .the-material in
+    let w : Within (partOf s .job .material .«min_wall») 10000 =
+    subst (λ (j : Job). Within (j .material .«min_wall») 10000) (sym (part-job s)) (m .wall-within) in
+    go (partOf s .job .«has_material») (partOf s .job .material .«min_wall») w (lt zero (partOf s .job .material .«min_wall»)) refl
+  where
+    go : (b : Bool) (w : Float) → Within w 10000 → (c : Bool) → lt zero w ≡ c → accepted (cond (b && c) w defaultMinWall) 2 ≡ true
+    go true w h true e = accepted-at w 10000 2 (lt-le zero w e) h (lit< tt) (omega arith)
+    go true w h false e = default-accepted
+    go false w h c e = default-accepted

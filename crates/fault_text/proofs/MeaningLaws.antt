@@ -1,8 +1,10 @@
 -- The rows that rules put: the fault that each kind of row is, and that it is good. Unused numbers are 0.0, unused words 0.
 use mathlib.Core.Path.{_≡_, refl, ap, _∙_}
+use mathlib.Core.Bool.{true}
 use Prim.Native.Nat.{ℕ, _≤_, _<_}
 use native.Mathlib.Omega.{arith}
-use lib.Ieee.{Float}
+use lib.Ieee.{Float, ofBits, le, lt, eq}
+use Rattle.num_text.specs.Decimal.{accepted}
 use Rattle.math.specs.Vector.{zero}
 use Rattle.file_part.specs.Part.{Part}
 use Rattle.solid_faces.specs.Faces.{facesOf}
@@ -11,9 +13,20 @@ use Rattle.fault_row.specs.Names.{severityRank, severityOf}
 use Rattle.fault_row.specs.Row.{row}
 use Rattle.fault_row.proofs.NameLaws.{severity-of}
 use Rattle.fault_text.specs.Kind.{thinWall, smallHole, deepHoleMax, deepHoleStandard, tightInsideRadius, deepInsideCorner, sharpInsideCorner, lastKind, ruleOf}
-use Rattle.fault_text.specs.Machining.{thinWallFault, smallHoleFault, deepHoleMaxFault, deepHoleStandardFault, tightInsideRadiusFault, deepInsideCornerFault, sharpInsideCornerFault}
-use Rattle.fault_text.specs.Meaning.{textOf, facesOfRow, faultOf, GoodRow}
+use Rattle.fault_text.specs.Job.{minWall}
+use Rattle.fault_text.specs.Machining.{minDrill, minMillRadius, thinWallFault, smallHoleFault, deepHoleMaxFault, deepHoleStandardFault, tightInsideRadiusFault, deepInsideCornerFault, sharpInsideCornerFault}
+use Rattle.fault_text.specs.Meaning.{textOf, facesOfRow, faultOf, printedOf, GoodRow}
 
+-- ---- the limits that texts print
+drill-accepted : accepted minDrill 2 ≡ true
+unfolding accepted ofBits le lt eq
+drill-accepted = refl
+
+mill-accepted : accepted minMillRadius 2 ≡ true
+unfolding accepted ofBits le lt eq
+mill-accepted = refl
+
+-- ---- the faults of rows
 module _ (t : Part) where
   -- n is the rank of the severity
   pub thin-wall-row : (s : Severity) (n f g : ℕ) (x : Float) → n ≡ severityRank s → faultOf t (row thinWall n 1 f g 0 x zero zero) ≡ thinWallFault t s f g x
@@ -46,7 +59,49 @@ module _ (t : Part) where
   unfolding faultOf severityOf ruleOf textOf facesOfRow sharpInsideCornerFault
   sharp-inside-corner-row f g length fillet = refl
 
+  -- ---- good rows: the numbers that each kind prints are accepted
+  pub thin-wall-printed : (n f g : ℕ) (x : Float) → accepted x 2 ≡ true → accepted (minWall t) 2 ≡ true → printedOf t (row thinWall n 1 f g 0 x zero zero) ≡ true
+  unfolding printedOf
+  thin-wall-printed n f g x a b = rw (a, b)
+
+  pub small-hole-printed : (f : ℕ) (d : Float) → accepted d 2 ≡ true → printedOf t (row smallHole 1 1 f 0 0 d zero zero) ≡ true
+  unfolding printedOf
+  small-hole-printed f d a = rw (a, drill-accepted)
+
+  pub deep-hole-max-printed : (f : ℕ) (ratio d length : Float) → accepted ratio 1 ≡ true → accepted d 2 ≡ true → accepted length 2 ≡ true →
+      printedOf t (row deepHoleMax 1 1 f 0 0 ratio d length) ≡ true
+  unfolding printedOf
+  deep-hole-max-printed f ratio d length a b c = rw (a, b, c)
+
+  pub deep-hole-standard-printed : (f : ℕ) (ratio : Float) → accepted ratio 1 ≡ true → printedOf t (row deepHoleStandard 2 1 f 0 0 ratio zero zero) ≡ true
+  unfolding printedOf
+  deep-hole-standard-printed f ratio a = a
+
+  pub tight-inside-radius-printed : (f : ℕ) (radius : Float) → accepted radius 2 ≡ true → printedOf t (row tightInsideRadius 1 1 f 0 0 radius zero zero) ≡ true
+  unfolding printedOf
+  tight-inside-radius-printed f radius a = rw (a, mill-accepted)
+
+  pub deep-inside-corner-printed : (f : ℕ) (ratio radius length : Float) → accepted ratio 1 ≡ true → accepted radius 2 ≡ true → accepted length 2 ≡ true →
+      printedOf t (row deepInsideCorner 1 1 f 0 0 ratio radius length) ≡ true
+  unfolding printedOf
+  deep-inside-corner-printed f ratio radius length a b c = rw (a, b, c)
+
+  pub sharp-inside-corner-printed : (f g : ℕ) (length fillet : Float) → accepted length 2 ≡ true → accepted fillet 2 ≡ true →
+      printedOf t (row sharpInsideCorner 1 1 f g 0 length fillet zero) ≡ true
+  unfolding printedOf
+  sharp-inside-corner-printed f g length fillet a b = rw (a, b)
+
   pub good-row : (kind severity a b : ℕ) (x y z : Float) → 1 ≤ kind → kind ≤ lastKind → severity < 3 → a < facesOf t → b < facesOf t →
-      GoodRow t (row kind severity 1 a b 0 x y z)
-  good-row kind severity a b x y z from to s fa fb =
-      record { kind-from = from; kind-to = to; severity-to = s; count-from = omega arith; count-to = omega arith; a-there = fa; b-there = fb; standing = refl }
+      printedOf t (row kind severity 1 a b 0 x y z) ≡ true → GoodRow t (row kind severity 1 a b 0 x y z)
+  good-row kind severity a b x y z from to s fa fb ok =
+      record {
+        kind-from = from;
+        kind-to = to;
+        severity-to = s;
+        count-from = omega arith;
+        count-to = omega arith;
+        a-there = fa;
+        b-there = fb;
+        standing = refl;
+        printed = ok;
+      }

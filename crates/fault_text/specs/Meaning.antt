@@ -1,9 +1,10 @@
 -- The fault that a row is. Definitions only.
 use mathlib.Core.Path.{_≡_}
-use mathlib.Core.Bool.{_&&_, _||_, cond}
+use mathlib.Core.Bool.{Bool, true, _&&_, _||_, cond}
 use mathlib.Core.List.{List, [], _∷_}
 use Prim.Native.Nat.{ℕ, _≤_, _<_}
 use lib.Dec.{eqb, leb}
+use Rattle.num_text.specs.Decimal.{accepted}
 use Rattle.file_part.specs.declared.read.FaceId.{FaceId}
 use Rattle.file_part.specs.Part.{Part}
 use Rattle.solid_faces.specs.Faces.{facesOf}
@@ -12,7 +13,8 @@ use Rattle.fault_row.specs.declared.row.Row.{Row}
 use Rattle.fault_row.specs.Names.{severityOf}
 use Rattle.fault_row.specs.Fault.{Fault}
 use Rattle.fault_text.specs.Kind.{thinWall, smallHole, deepHoleMax, deepHoleStandard, tightInsideRadius, deepInsideCorner, sharpInsideCorner, lastKind, ruleOf}
-use Rattle.fault_text.specs.Machining.{thinWallText, smallHoleText, deepHoleMaxText, deepHoleStandardText, tightInsideRadiusText, deepInsideCornerText, sharpInsideCornerText}
+use Rattle.fault_text.specs.Job.{minWall}
+use Rattle.fault_text.specs.Machining.{minDrill, minMillRadius, thinWallText, smallHoleText, deepHoleMaxText, deepHoleStandardText, tightInsideRadiusText, deepInsideCornerText, sharpInsideCornerText}
 
 -- x, y and z are what the kind's message prints; nothing for a number that is no kind
 unfoldable pub textOf : Part → Row → List ℕ
@@ -39,6 +41,17 @@ faultOf t row =
       faces = facesOfRow t row;
     }
 
+-- every number that the text prints is one that the decimal writer takes, so that its own digits are printed (`accepted-text` of num_text)
+unfoldable pub printedOf : Part → Row → Bool
+printedOf t row =
+    cond (eqb (row .kind) thinWall) (accepted (row .x) 2 && accepted (minWall t) 2)
+    (cond (eqb (row .kind) smallHole) (accepted (row .x) 2 && accepted minDrill 2)
+    (cond (eqb (row .kind) deepHoleMax) (accepted (row .x) 1 && accepted (row .y) 2 && accepted (row .z) 2)
+    (cond (eqb (row .kind) deepHoleStandard) (accepted (row .x) 1)
+    (cond (eqb (row .kind) tightInsideRadius) (accepted (row .x) 2 && accepted minMillRadius 2)
+    (cond (eqb (row .kind) deepInsideCorner) (accepted (row .x) 1 && accepted (row .y) 2 && accepted (row .z) 2)
+    (cond (eqb (row .kind) sharpInsideCorner) (accepted (row .x) 2 && accepted (row .y) 2) true))))))
+
 -- a row that a rule puts: 2,048 of its counts add up below 2 ^ 32
 pub record GoodRow (t : Part) (row : Row) : Type 0 where
   pub kind-from : 1 ≤ row .kind
@@ -49,3 +62,5 @@ pub record GoodRow (t : Part) (row : Row) : Type 0 where
   pub a-there : row .a < facesOf t
   pub b-there : row .b < facesOf t
   pub standing : row .waived ≡ 0
+  -- "13 comes from the decimal writer alone; a check never meets it"
+  pub printed : printedOf t row ≡ true

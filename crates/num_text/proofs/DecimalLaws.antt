@@ -135,10 +135,10 @@ module _ (x : Float) (p : ℕ) where
   accepts a b c =
       and-true (le zero x && lt x limit) (leb p 3) (and-true (le zero x) (lt x limit) (is-true (le zero x) a) (is-true (lt x limit) b)) (le-leb p 3 c)
 
-  -- a number from 0 on and below 2 ^ 60 is written
-  pub text-of : T (le zero x) → T (lt x limit) → p ≤ 3 → decimalText x p ≡ text x p
+  -- a number that is accepted is written
+  pub accepted-text : accepted x p ≡ true → decimalText x p ≡ text x p
   unfolding decimalText
-  text-of a b c = rw (accepts a b c)
+  accepted-text e = rw e
 
   -- so nothing at a position is longer than 23 bytes
   pub decimalText-length : length (decimalText x p) ≤ 23

@@ -12,8 +12,8 @@ use Rattle.num_float.proofs.Tests.{holds}
 use Rattle.num_float.proofs.Within.{within-lt-2-60}
 use Rattle.num_text.specs.declared.decimal.Answer.{Answer}
 use Rattle.num_text.specs.declared.decimal.Answer.the-variants.{Written}
-use Rattle.num_text.specs.Decimal.{text, zero, limit, refusal, Writes, decimalText}
-use Rattle.num_text.proofs.DecimalLaws.{from-zero, to-limit, text-of, never-refused}
+use Rattle.num_text.specs.Decimal.{text, zero, limit, accepted, refusal, Writes, decimalText}
+use Rattle.num_text.proofs.DecimalLaws.{from-zero, to-limit, accepts, accepted-text, never-refused}
 
 module _ (x : Float) (b p : ℕ) (nonneg : NonNeg x) (within : Within x b) (below : b < 2 ^ 60) (places : p ≤ 3) where
   from-0 : T (le zero x)
@@ -22,9 +22,12 @@ module _ (x : Float) (b p : ℕ) (nonneg : NonNeg x) (within : Within x b) (belo
   to-2-60 : T (lt x limit)
   to-2-60 = holds (to-limit x true (within-lt-2-60 x b within below))
 
+  pub accepted-at : accepted x p ≡ true
+  accepted-at = accepts x p from-0 to-2-60 places
+
   -- at a position its text is written
   pub written-at : decimalText x p ≡ text x p
-  written-at = text-of x p from-0 to-2-60 places
+  written-at = accepted-text x p accepted-at
 
   -- and so it is by the decimal writer, into any buffer of 24 bytes or more
   pub written-first : {before after : List ℕ} {r : Answer} → 24 ≤ length before → Writes x p before after r

@@ -182,45 +182,46 @@ all-put s at words words′ reals reals′ i m h a b few put w r =
     let all : i ≡ partOf s .vertices = omega (arith, a, b, placed-vertices s at (h .placed)) in
     record { put = subst (λ (k : ℕ). CornersTo (partOf s) at k m words′ reals′) all put; few = omega (arith, a, few); words-kept = w; reals-kept = r }
 
--- ---- the faces of the k-th corner
+-- ---- the k-th corner
+-- what passes is below and passes
+passes : (test : ℕ → Bool) (n k : ℕ) → k < length (passing test n) → (getD (passing test n) k 0 < n) × (test (getD (passing test n) k 0) ≡ true)
+unfolding passing
+passes test zero k l = absurd (omega (arith, l))
+passes test (suc n) k l = go (test n) refl (passes test n k) (lt-or-ge k (length (passing test n)))
+  where
+    go : (b : Bool) → test n ≡ b →
+        (k < length (passing test n) → (getD (passing test n) k 0 < n) × (test (getD (passing test n) k 0) ≡ true)) → (k < length (passing test n)) ⊎ (length (passing test n) ≤ k) →
+        (getD (passing test n ++ cond (test n) (n ∷ []) []) k 0 < suc n) × (test (getD (passing test n ++ cond (test n) (n ∷ []) []) k 0) ≡ true)
+    go b e before (inl low) =
+        let was = before low in
+        let same = List·getD-append (passing test n) (cond (test n) (n ∷ []) []) 0 k low in
+        (omega (arith, same, was .0), ap test same ∙ was .1)
+    go true e before (inr high) =
+        let one : length (passing test n ++ cond (test n) (n ∷ []) []) ≡ length (passing test n) + 1
+        = ap (λ (c : Bool). length (passing test n ++ cond c (n ∷ []) [])) e ∙ length-append (passing test n) (n ∷ []) in
+        let last : length (passing test n) + 0 ≡ k = omega (arith, l, one, high) in
+        let same : getD (passing test n ++ cond (test n) (n ∷ []) []) k 0 ≡ n
+        = ap (λ (c : Bool). getD (passing test n ++ cond c (n ∷ []) []) k 0) e
+        ∙ ap (λ (j : ℕ). getD (passing test n ++ (n ∷ [])) j 0) (sym last) ∙ getD-append-add (passing test n) (n ∷ []) 0 0 in
+        (omega (arith, same), ap test same ∙ e)
+    go false e before (inr high) =
+        let none : length (passing test n ++ cond (test n) (n ∷ []) []) ≡ length (passing test n)
+        = ap (λ (c : Bool). length (passing test n ++ cond c (n ∷ []) [])) e ∙ ap length (append-nil (passing test n)) in
+        absurd (omega (arith, l, none, high))
+
+pub corner-side : (t : Part) (k : ℕ) → k < cornerCount t → (cornerSide t k < t .vertices) × (isCorner t (cornerSide t k) ≡ true)
+unfolding cornerCount cornerSide cornerSides
+corner-side t k l = passes (isCorner t) (t .vertices) k l
+
+-- its faces
 module _ (s : List ℕ) (at : Regions) (words : List ℕ) (reals : List Float) (h : Standing s at words reals) where
   abbrev t : Part
   t = partOf s
 
-  -- what passes is below and passes
-  passes : (test : ℕ → Bool) (n k : ℕ) → k < length (passing test n) → (getD (passing test n) k 0 < n) × (test (getD (passing test n) k 0) ≡ true)
-  unfolding passing
-  passes test zero k l = absurd (omega (arith, l))
-  passes test (suc n) k l = go (test n) refl (passes test n k) (lt-or-ge k (length (passing test n)))
-    where
-      go : (b : Bool) → test n ≡ b →
-          (k < length (passing test n) → (getD (passing test n) k 0 < n) × (test (getD (passing test n) k 0) ≡ true)) → (k < length (passing test n)) ⊎ (length (passing test n) ≤ k) →
-          (getD (passing test n ++ cond (test n) (n ∷ []) []) k 0 < suc n) × (test (getD (passing test n ++ cond (test n) (n ∷ []) []) k 0) ≡ true)
-      go b e before (inl low) =
-          let was = before low in
-          let same = List·getD-append (passing test n) (cond (test n) (n ∷ []) []) 0 k low in
-          (omega (arith, same, was .0), ap test same ∙ was .1)
-      go true e before (inr high) =
-          let one : length (passing test n ++ cond (test n) (n ∷ []) []) ≡ length (passing test n) + 1
-          = ap (λ (c : Bool). length (passing test n ++ cond c (n ∷ []) [])) e ∙ length-append (passing test n) (n ∷ []) in
-          let last : length (passing test n) + 0 ≡ k = omega (arith, l, one, high) in
-          let same : getD (passing test n ++ cond (test n) (n ∷ []) []) k 0 ≡ n
-          = ap (λ (c : Bool). getD (passing test n ++ cond c (n ∷ []) []) k 0) e
-          ∙ ap (λ (j : ℕ). getD (passing test n ++ (n ∷ [])) j 0) (sym last) ∙ getD-append-add (passing test n) (n ∷ []) 0 0 in
-          (omega (arith, same), ap test same ∙ e)
-      go false e before (inr high) =
-          let none : length (passing test n ++ cond (test n) (n ∷ []) []) ≡ length (passing test n)
-          = ap (λ (c : Bool). length (passing test n ++ cond c (n ∷ []) [])) e ∙ ap length (append-nil (passing test n)) in
-          absurd (omega (arith, l, none, high))
-
-  pub corner-side : (k : ℕ) → k < cornerCount t → (cornerSide t k < t .vertices) × (isCorner t (cornerSide t k) ≡ true)
-  unfolding cornerCount cornerSide cornerSides
-  corner-side k l = passes (isCorner t) (t .vertices) k l
-
   pub corner-faces : (k : ℕ) → k < cornerCount t → (nearFace t k < facesOf t) × (farFace t k < facesOf t)
   unfolding nearFace farFace
   corner-faces k l =
-      let c = corner-side k l in
+      let c = corner-side t k l in
       let readable = checked-readable s (h .placed .checked) in
       let low : cornerSide t k < vertexCount s = omega (arith, c .0, part-vertices s) in
       (face-below s readable (cornerSide t k) low, beyond-below s readable (cornerSide t k) low (corner-edge t (cornerSide t k) (c .1)))

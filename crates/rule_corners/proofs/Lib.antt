@@ -2,7 +2,10 @@
 -- WalkLaws
 --   corners-start, next-corner, corners-end   a walk over the corners by pairs of faces: nothing yet, one pair more, and at the end `overCorners`
 -- SegmentLaws: standing-lent                  the sides and faces of a body that stands, as `solid_edges` asks for them
--- SegmentLaws, CornerLaws: the steps of the functions
+-- SizeLaws: length-accepted, fillet-accepted  the numbers that the message prints are never refused
+-- SegmentLaws, CornerLaws, SharpLaws: the steps of the functions
 pub mod SegmentLaws
 pub mod CornerLaws
 pub mod WalkLaws
+pub mod SizeLaws
+pub mod SharpLaws

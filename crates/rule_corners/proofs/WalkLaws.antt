@@ -1,7 +1,7 @@
 -- The walk over the sorted corners: a corner in its place, the next two faces, and what is kept of the corners between them.
 use mathlib.Core.Path.{_≡_, refl, sym, ap, _∙_, subst, subst₂}
 use mathlib.Core.Bool.{Bool, true, false, cond}
-use mathlib.Core.List.{List, [], _∷_, _++_}
+use mathlib.Core.List.{List, [], _∷_, _++_, List·Memᴰ}
 use Prim.Native.Nat.{ℕ, _+_, _-_, _≤_, _<_}
 use native.Mathlib.Omega.{arith}
 use lib.ListN.{length, getD, take, drop}
@@ -26,7 +26,7 @@ use Rattle.scratch.proofs.WordsLaws.{face-at}
 use Rattle.solid_pairs.specs.declared.FacePair.{FacePair}
 use Rattle.solid_pairs.specs.Pairs.{lower, higher}
 use Rattle.solid_pairs.specs.Kept.{PairIs}
-use Rattle.solid_pairs.proofs.PairLaws.{lower-below, higher-below, item-below, pairs-start, next-pair, pairs-end}
+use Rattle.solid_pairs.proofs.PairLaws.{lower-below, higher-below, item-below, group-below, pairs-start, next-pair, pairs-end}
 use Rattle.rule_corners.specs.declared.segment.Sides.{Sides}
 use Rattle.rule_corners.specs.declared.corner.Two.{Two}
 use Rattle.rule_corners.specs.declared.corner.Corner.{Corner}
@@ -144,7 +144,7 @@ module _ (s : List ℕ) (at : Regions) (words : List ℕ) (reals : List Float) (
   pub side-is : (j x r : ℕ) → j < all → x ≡ getD words (at .sorted + j) 0 → r ≡ getD words (at .items + x) 0 → SideAt u at words j r
   side-is j x r h e q =
       let there : r ≡ cornerSide u x = q ∙ o .sides x (place-below j x h e) in
-      let c = corner-side s at words reals (o .standing) x (place-below j x h e) in
+      let c = corner-side u x (place-below j x h e) in
       record {
         side = there ∙ ap (cornerSide u) (cell-is j x h e);
         below = omega (arith, there, c .0);
@@ -255,3 +255,9 @@ module _ (t : Part) (at : Regions) (words : List ℕ) (i e : ℕ) (low : i < e) 
       corner-parts t first rest x m (two .low) (two .high) (el ∙ ap (lengthFrom t zero) front) (em ∙ ap (midOf t) (sr .side ∙ ap (cornerSide t) (sym last)))
       (n .low-is ∙ ap (lowerNormal t) (sq .side)) (n .high-is ∙ ap (higherNormal t) (sq .side))
       ∙ ap (cornerOf t) (sym front)
+
+-- what stands in the order are corners
+pub corners-below : (s : List ℕ) (at : Regions) (words : List ℕ) (reals : List Float) → CornersOrdered s at words reals → (i e : ℕ) → e ≤ cornerCount (partOf s) →
+    (z : ℕ) → List·Memᴰ z (part i e (cornerOrder at words)) → z < cornerCount (partOf s)
+corners-below s at words reals o i e h z mem =
+    group-below (partOf s) (nearFace (partOf s)) (farFace (partOf s)) (cornerCount (partOf s)) (cornerKeys at reals) (cornerOrder at words) (o .sorted) i e h z mem

@@ -1,4 +1,5 @@
 -- Inside corners between flat faces.
 pub mod Corners
+pub mod Sharp
 pub mod Kept
 pub mod Work

@@ -18,9 +18,14 @@ use Rattle.solid_pairs.specs.Pairs.{lower, higher}
 use Rattle.rule_corners.specs.declared.segment.Sides.{Sides}
 use Rattle.rule_corners.specs.declared.segment.Found.{Found}
 use Rattle.rule_corners.specs.declared.segment.Found.the-variants.{Corner, Nothing}
+use Rattle.fault_row.specs.Fault.{Fault}
+use Rattle.fault_row.specs.Faults.{FaultsPut}
+use Rattle.fault_text.specs.Meaning.{faultOf, GoodRow}
 use Rattle.rule_corners.specs.declared.corner.Two.{Two}
-use Rattle.rule_corners.specs.Corners.{polygonBeyond, isCorner, cornerSide, lowerNormal, higherNormal}
-use Rattle.rule_corners.specs.Kept.{cornerOrder}
+use Rattle.rule_corners.specs.declared.sharp.Group.{Group}
+use Rattle.rule_corners.specs.Corners.{polygonBeyond, isCorner, cornerCount, cornerSide, cornerOf, lowerNormal, higherNormal}
+use Rattle.rule_corners.specs.Kept.{cornerOrder, CornersMet}
+use Rattle.rule_corners.specs.Sharp.{sharpCorner}
 
 -- the two polygons of segment s
 pub record SidesOf (t : Part) (s : ℕ) (r : Sides) : Type 0 where
@@ -70,3 +75,18 @@ pub record SideAt (t : Part) (at : Regions) (words : List ℕ) (j r : ℕ) : Typ
 pub record Normals (t : Part) (s : ℕ) (r : Two) : Type 0 where
   pub low-is : r .low ≡ lowerNormal t s
   pub high-is : r .high ≡ higherNormal t s
+
+-- ---- the rule
+-- two faces and some places of the order
+pub record GroupThere (t : Part) (g : Group) : Type 0 where
+  pub first-below : g .first < facesOf t
+  pub second-below : g .second < facesOf t
+  pub some : g .from < g .end
+  pub inside : g .end ≤ cornerCount t
+  pub few : g .before < 4294967296
+
+-- a walk at place i has met these faults, and they are put
+pub record SharpTo (t : Part) (i from k : ℕ) (cells cells′ : List ℕ) (numbers numbers′ : List Float) : Type 0 where
+  pub out : List Fault
+  pub met : CornersMet t (λ f g l. sharpCorner t f g (cornerOf t l)) i out
+  pub put : FaultsPut (faultOf t) (GoodRow t) from out cells cells′ numbers numbers′ k

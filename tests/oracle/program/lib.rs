@@ -1,5 +1,6 @@
 //! The oracle as a library, for tests that call it file by file, and the Rust's own functions for benchmarks beside ours.
 mod dfm;
+pub mod faults;
 pub mod lists;
 mod material;
 pub mod math;
@@ -16,7 +17,7 @@ mod anvil_kernel {
 
 pub use dfm::roots;
 
-/// Called by the check, which is not run here.
+/// Called where faults are merged, which is not done here.
 fn note_faults(_: usize) {}
 
 /// The refusal from 1 to 9 that a file meets, 0 for none.

@@ -1,0 +1,31 @@
+//! The four slices that a call which lists something is lent, full of garbage: the scratch, and the list's cells and numbers.
+use crate::random::Random;
+use crate::scratch::{is_refusal, Scratch};
+
+pub struct Lent {
+    pub random: Random,
+    pub words: Scratch<u32>,
+    pub reals: Scratch<f64>,
+    pub cells: Scratch<u32>,
+    pub numbers: Scratch<f64>,
+}
+
+impl Lent {
+    pub fn new(seed: u64) -> Lent {
+        Lent { random: Random(seed), words: Scratch::new(), reals: Scratch::new(), cells: Scratch::new(), numbers: Scratch::new() }
+    }
+
+    pub fn lend(&mut self, (words, reals): (usize, usize), (cells, numbers): (usize, usize), small: usize) {
+        let kinds = [0; 4].map(|_| self.random.below(4) as usize);
+        self.words.lend(words, kinds[0], small, &mut self.random);
+        self.reals.lend(reals, kinds[1], small, &mut self.random);
+        self.cells.lend(cells, kinds[2], small, &mut self.random);
+        self.numbers.lend(numbers, kinds[3], small, &mut self.random);
+    }
+
+    /// This answer, and no cell changed.
+    pub fn is_refusal(&self, call: &str, ours: u32, number: u32) -> Result<(), String> {
+        let scratch = self.words.is_unchanged() && self.reals.is_unchanged();
+        is_refusal(call, ours, number, scratch && self.cells.is_unchanged() && self.numbers.is_unchanged())
+    }
+}

@@ -1,0 +1,135 @@
+//! The faults of machining against the Rust's own list before it merges them, in order: severity, rule, text, count and faces; and refusals 1 to 10.
+//! Takes generated files from standard input; with --quick there are fewer of the others.
+#[path = "../rays/bores.rs"]
+mod bores;
+#[path = "../body/change.rs"]
+mod change;
+#[path = "../part/field.rs"]
+mod field;
+#[path = "../lib/gablemadder.rs"]
+mod gablemadder;
+#[path = "../body/layout.rs"]
+mod layout;
+#[path = "../lib/lent.rs"]
+mod lent;
+#[path = "../body/mesh.rs"]
+mod mesh;
+#[path = "../lib/random.rs"]
+mod random;
+#[path = "../body/regions.rs"]
+mod regions;
+#[path = "../part/sample.rs"]
+mod sample;
+#[path = "../body/scratch.rs"]
+mod scratch;
+#[path = "../body/shapes.rs"]
+mod shapes;
+#[path = "../lib/stream.rs"]
+mod stream;
+#[path = "../lib/tally.rs"]
+mod tally;
+#[path = "../rays/walls.rs"]
+mod walls;
+
+mod compare;
+mod limits;
+mod rows;
+mod seen;
+mod voxels;
+
+use compare::Compare;
+use mesh::Mesh;
+use random::Random;
+use std::io;
+use std::thread;
+
+const LEAST: u64 = 200_000;
+/// Changed copies of larger files cost more than they show.
+const LARGE: usize = 100_000;
+
+fn main() {
+    let quick = std::env::args().any(|a| a == "--quick");
+    let (own, rounds) = if quick { (3_000, 1) } else { (70_000, 2) };
+    let own = thread::spawn(move || {
+        let mut c = Compare::new(23);
+        own_shapes(&mut c, own);
+        many_faults(&mut c, rounds);
+        c
+    });
+    let mut c = Compare::new(24);
+    from_input(&mut c).expect("a stream of part files");
+    let own = own.join().expect("a test thread failed");
+    let files = own.tally.compared + c.tally.compared;
+    let different = own.tally.different + c.tally.different;
+    let seen = own.seen.and(c.seen);
+    println!("machining: {}", seen.text());
+    let rare = seen.too_rare();
+    let few = !quick && (files < LEAST || !rare.is_empty());
+    if few {
+        println!("machining: fewer than {LEAST} files, or too rare: {}", rare.join("; "));
+    }
+    println!("machining: {files} files, {} of them accepted, {different} differences", seen.count("accepted"));
+    std::process::exit((different != 0 || few) as i32);
+}
+
+/// Generated files, as they are and changed.
+fn from_input(c: &mut Compare) -> io::Result<()> {
+    let mut random = Random(25);
+    stream::each(|number, file| {
+        if c.check(file, || format!("generated file {number}")) == 0 && file.len() < LARGE {
+            let changed = changed(&mut random, &Mesh::read(file));
+            c.check(&changed.bytes(), || format!("generated file {number}, changed"));
+        }
+    })
+}
+
+/// With another job, other ids, a value at a limit or another shape.
+fn changed(random: &mut Random, mesh: &Mesh) -> Mesh {
+    let mut copy = if random.below(4) == 0 { change::changed(random, mesh) } else { mesh.clone() };
+    match random.below(4) {
+        0 => copy.job = limits::job(random),
+        1 => limits::fit_wall(random, &mut copy),
+        2 => limits::fit_rounds(random, &mut copy),
+        _ => {}
+    }
+    if random.below(2) == 0 {
+        limits::rename(random, &mut copy);
+    }
+    copy
+}
+
+fn draw(random: &mut Random) -> Mesh {
+    let mut mesh = match random.below(16) {
+        0..=7 => voxels::draw(random),
+        8 => shapes::draw(random),
+        9 | 10 => limits::corner(random),
+        11 if random.below(4) == 0 => Mesh::empty(),
+        11..=13 => {
+            let mut mesh = Mesh::empty();
+            bores::bore(random, &mut mesh);
+            mesh
+        }
+        _ => walls::draw(random),
+    };
+    mesh.job = limits::job(random);
+    mesh
+}
+
+fn own_shapes(c: &mut Compare, count: u64) {
+    let mut random = Random(26);
+    for number in 0..count {
+        let mesh = draw(&mut random);
+        c.check(&mesh.bytes(), || format!("shape {number}"));
+        let changed = changed(&mut random, &mesh);
+        c.check(&changed.bytes(), || format!("shape {number}, changed"));
+    }
+}
+
+/// About as many as there are rows at the most, and more.
+fn many_faults(c: &mut Compare, rounds: u64) {
+    for _ in 0..rounds {
+        for (pits, not_plane) in [(682, 0), (683, 1), (684, 2), (683, 0), (1024, 0)] {
+            c.check(&voxels::pits(pits, not_plane).bytes(), || format!("{pits} pits"));
+        }
+    }
+}
