@@ -73,8 +73,13 @@ module _ (s : List ℕ) (words : List ℕ) (reals : List Float) (g : Group) (o :
 
   few : length items ≤ 16384
   few =
-      omega (arith, part-length (g .from) (g .end) (cornerOrder (g .at) words) (omega (arith, there .inside, order-long s (g .at) words reals o)), there .inside, most s (g .at) words reals o,
-      o .standing .placed .laid)
+      omega (
+        arith,
+        part-length (g .from) (g .end) (cornerOrder (g .at) words) (omega (arith, there .inside, order-long s (g .at) words reals o)),
+        there .inside,
+        most s (g .at) words reals o,
+        o .standing .placed .laid,
+      )
 
   pub sharp-one : (y : Float) (r : ℕ) (cells cells′ : List ℕ) (numbers numbers′ : List Float) → b ≡ false → y ≡ filletOf (c .length) →
       RowPut (g .before) (row sharpInsideCorner 1 1 (g .first) (g .second) 0 (c .length) y zero) cells cells′ numbers numbers′ r →

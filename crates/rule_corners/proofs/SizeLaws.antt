@@ -84,7 +84,7 @@ module _ (s : List ℕ) (h : Checked s) where
       let y = segmentLength t (cornerSide t k) in
       let shift : suc i + length l ≡ i + suc (length l) = omega arith in
       let more = lengths-sized l (add binary64 x y) (suc i) (λ z m. inside z (List·Memᴰ·tail m)) (omega (arith, few)) (add-nonneg x y n (one .0))
-          (add-within x y (i * 2 ^ 16) (2 ^ 16) (suc i * 2 ^ 16) w (one .1) (le-of-eq (sym (suc-mul i (2 ^ 16)))) (held-pow (suc i) 16 (omega (arith, few)) (lit≤ tt))) in
+      (add-within x y (i * 2 ^ 16) (2 ^ 16) (suc i * 2 ^ 16) w (one .1) (le-of-eq (sym (suc-mul i (2 ^ 16)))) (held-pow (suc i) 16 (omega (arith, few)) (lit≤ tt))) in
       (more .0, subst (λ (n : ℕ). Within (lengthFrom t (add binary64 x y) l) (n * 2 ^ 16)) shift (more .1))
 
   module _ (l : List ℕ) (inside : (z : ℕ) → List·Memᴰ z l → z < cornerCount t) (few : length l ≤ 16384) where

@@ -2,11 +2,24 @@
 -- A float is written fin s m e: m * 2 ^ e, negative where s is true; negsuc k is -(k + 1). So 0.125 is fin false 1 (negsuc 2).
 use mathlib.Core.Path.{_≡_, refl}
 use mathlib.Core.Bool.{true, false}
+use mathlib.Core.List.{[], _∷_}
+use Prim.Native.Nat.{ℕ}
 use lib.IntN.{pos, negsuc}
-use lib.Ieee.{fin, binary64, toBits, ofBits}
+use lib.Ieee.{fin, binary64, mul, lt, toBits, ofBits}
 use Rattle.num_root.specs.Root.{root}
 use Rattle.num_text.specs.Decimal.{text}
 use Rattle.num_text.specs.Put.{bytes}
+use Rattle.file_part.specs.Part.{Part}
+use Rattle.solid_ids.specs.Ids.{idOf}
+use Rattle.round_all.specs.declared.round.Round.{Round}
+use Rattle.measure_sizes.specs.Round.{ratioOf}
+use Rattle.fault_row.specs.declared.fault.Severity.the-variants.{Error, Warning, Note}
+use Rattle.fault_row.specs.declared.fault.Rule.the-variants.{DeepHole, ThinWall}
+use Rattle.fault_row.specs.Fault.{fault}
+use Rattle.fault_text.specs.Job.{defaultMinWall, minWall}
+use Rattle.fault_text.specs.Machining.{thinWallText, deepHoleStandardText, thinWallFault, deepHoleStandardFault}
+use Rattle.fault_text.proofs.JobLaws.{min-wall-zero}
+use Rattle.rule_machining.specs.Machining.{wallSeverity, wallFault, deepHoles}
 
 -- ---- decimals
 -- 0.125 to two places is 0.12
@@ -54,3 +67,37 @@ root-of-two = refl
 pub root-of-minus-zero : root (fin true 0 (pos 0)) ≡ fin true 0 (pos 0)
 unfolding root
 root-of-minus-zero = refl
+
+-- ---- CNC minimum 0.8
+-- 0.4 is a Warning
+pub wall-at-half : (t : Part) (f g : ℕ) → minWall t ≡ defaultMinWall → wallFault t f g (ofBits binary64 0x3FD999999999999A) ≡
+    fault Warning ThinWall (thinWallText t (ofBits binary64 0x3FD999999999999A)) (idOf t f ∷ idOf t g ∷ []) ∷ []
+unfolding wallFault wallSeverity thinWallFault
+wall-at-half t f g e = rw e (unfold lt mul ofBits in refl)
+
+-- the next f64 below an Error
+pub wall-below-half : (t : Part) (f g : ℕ) → minWall t ≡ defaultMinWall → wallFault t f g (ofBits binary64 0x3FD9999999999999) ≡
+    fault Error ThinWall (thinWallText t (ofBits binary64 0x3FD9999999999999)) (idOf t f ∷ idOf t g ∷ []) ∷ []
+unfolding wallFault wallSeverity thinWallFault
+wall-below-half t f g e = rw e (unfold lt mul ofBits in refl)
+
+-- 0.8 gives none
+pub wall-at-minimum : (t : Part) (f g : ℕ) → minWall t ≡ defaultMinWall → wallFault t f g (ofBits binary64 0x3FE999999999999A) ≡ []
+unfolding wallFault
+wall-at-minimum t f g e = rw e (unfold lt ofBits in refl)
+
+-- material min_wall 0 counts as 0.8
+pub min-wall-of-zero : (t : Part) → t .job .material .«min_wall» ≡ ofBits binary64 0 → minWall t ≡ ofBits binary64 0x3FE999999999999A
+min-wall-of-zero t e = min-wall-zero t e
+
+-- ---- hole length over diameter
+-- 10 is a Note
+pub hole-ten-deep : (t : Part) (r : Round) → ratioOf r ≡ ofBits binary64 0x4024000000000000 → deepHoles t r ≡
+    fault Note DeepHole (deepHoleStandardText (ofBits binary64 0x4024000000000000)) (idOf t (r .face) ∷ []) ∷ []
+unfolding deepHoles deepHoleStandardFault
+hole-ten-deep t r e = rw e (unfold lt ofBits in refl)
+
+-- 4 none
+pub hole-four-deep : (t : Part) (r : Round) → ratioOf r ≡ ofBits binary64 0x4010000000000000 → deepHoles t r ≡ []
+unfolding deepHoles
+hole-four-deep t r e = rw e (unfold lt ofBits in refl)

@@ -1,0 +1,2 @@
+-- The laws on the probes of the rules.
+pub mod AnswerLaws

@@ -1,0 +1,4 @@
+-- The faults of machining.
+pub mod Machining
+pub mod All
+pub mod Work

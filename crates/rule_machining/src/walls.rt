@@ -1,0 +1,91 @@
+// "Thin wall".
+ghost use mathlib.Core.Path.{_≡_};
+ghost use mathlib.Core.Bool.{cond};
+ghost use Prim.Native.Nat.{_+_, _≤_, _<_};
+ghost use lib.Ieee.{binary64, mul, lt};
+ghost use lib.ListN.{length};
+ghost use Rattle.file_part.specs.Part.{partOf};
+ghost use Rattle.solid_polygon.specs.Polygon.{half};
+ghost use Rattle.wall_samples.specs.Samples.{readingsOf};
+ghost use Rattle.wall_pairs.specs.Kept.{Counted, WallsOrdered};
+ghost use Rattle.fault_row.specs.Faults.{FaultsPut};
+ghost use Rattle.fault_text.specs.Meaning.{faultOf, GoodRow};
+ghost use Rattle.rule_machining.specs.Machining.{thinWalls};
+ghost use Rattle.rule_machining.specs.Work.{WallPut};
+use crate::Given;
+use fault_row::row::ERROR;
+use fault_row::row::Row;
+use fault_row::row::WARNING;
+use fault_row::row::put_row;
+use fault_text::job::min_wall;
+use fault_text::kind::THIN_WALL;
+use wall_pairs::NextWall;
+use wall_pairs::least;
+use wall_pairs::next_wall;
+
+// Thinner than half of what the material needs, a wall can't be made.
+fn severity(x: f64, wall: f64) -> u32
+    ensures { λ r. ⌜ r ≡ cond (lt x (mul binary64 half wall)) 0 1 ⌝ }
+{
+    if x < 0.5 * wall {
+        return ERROR;
+    }
+    WARNING
+}
+
+// The wall between two faces, x thick, where walls have to be `wall` thick.
+fn put_thin_wall(
+    cells: &mut [u32],
+    numbers: &mut [f64],
+    from: usize,
+    faces: NextWall,
+    x: f64,
+    wall: f64,
+) -> usize
+    requires { ⌜ from < 4294967296 ⌝ ∗ ⌜ faces .first < 4294967296 ⌝ ∗ ⌜ faces .second < 4294967296 ⌝ }
+    ensures { λ r. ⌜ WallPut faces x wall from (now (cells .entry)) (now (cells .exit)) (now (numbers .entry)) (now (numbers .exit)) r ⌝ }
+{
+    if x < wall {
+        let row = Row {
+            kind: THIN_WALL,
+            severity: severity(x, wall),
+            count: 1,
+            a: faces.first as u32,
+            b: faces.second as u32,
+            waived: 0,
+            x: x,
+            y: 0.0,
+            z: 0.0,
+        };
+        return put_row(cells, numbers, from, row);
+    }
+    from
+}
+
+// The thin walls of a part whose readings stand in the scratch, sorted by their pairs of faces. How many faults there are then.
+pub fn put_thin_walls(
+    file: &[u8],
+    words: &[u32],
+    reals: &[f64],
+    cells: &mut [u32],
+    numbers: &mut [f64],
+    given: Given,
+) -> usize
+    requires { ⌜ WallsOrdered (now file) (given .at) (now words) (now reals) ⌝ ∗ ⌜ Counted (partOf (now file)) (given .counts) ⌝ ∗ ⌜ given .from ≤ 65536 ⌝ }
+    ensures { λ r. ⌜ FaultsPut (faultOf (partOf (now (file .entry)))) (GoodRow (partOf (now (file .entry)))) (given .from) (thinWalls (partOf (now (file .entry)))) (now (cells .entry)) (now (cells .exit)) (now (numbers .entry)) (now (numbers .exit)) r ⌝ ∗ ⌜ r ≤ given .from + length (readingsOf (partOf (now (file .entry)))) ⌝ }
+{
+    let at = given.at;
+    let counts = given.counts;
+    let m = counts.readings;
+    let wall = min_wall(file);
+    let mut k = given.from;
+    let mut i: usize = 0;
+    while i < m {
+        let faces = next_wall(file, words, reals, at, counts, i);
+        let end = faces.end;
+        let x = least(file, words, reals, at, i, end);
+        k = put_thin_wall(cells, numbers, k, faces, x, wall);
+        i = end;
+    }
+    k
+}
