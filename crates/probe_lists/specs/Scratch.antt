@@ -11,7 +11,7 @@ use Rattle.wall_samples.specs.Stored.{Readings}
 use Rattle.round_all.specs.Kept.{Rounds}
 
 -- The body and the readings stand in both slices, and the cells past their regions are as they were. Of their regions' cells some are work, and what
--- they hold is the program's choice: those of the order and of the areas negated, five of the eight of each side, those of the faces' first polygons
+-- they hold is the program's choice: those of the order and of the areas negated, the five cells a side after the sides' three, those of the faces' first polygons
 -- past the last face, and those of the readings past the last one.
 pub record ReadingsPut (s words words′ : List ℕ) (reals reals′ : List Float) : Type 0 where
   pub at : Regions
@@ -20,8 +20,8 @@ pub record ReadingsPut (s words words′ : List ℕ) (reals reals′ : List Floa
   pub words-kept : Outside 0 0 (at .kinds) words words′
   pub reals-kept : Outside nan 0 (at .rounds) reals reals′
 
--- The body and the rounds, in the same way. The program's choice are the directions, five of the eight cells of each side, those of the faces' first
--- polygons and of the kinds past the last face, and those of the numbers of faces that are no rounds.
+-- The body and the rounds, in the same way. The program's choice are the directions, the five cells a side after the sides' three, those of the faces'
+-- first polygons, of the kinds and of the numbers past the last face, and those of the numbers of faces that are no rounds.
 pub record RoundsPut (s words words′ : List ℕ) (reals reals′ : List Float) : Type 0 where
   pub at : Regions
   pub standing : Standing s at words′ reals′

@@ -9,7 +9,7 @@ use Rattle.scratch.specs.declared.regions.Regions.{Regions}
 use Rattle.scratch.specs.Standing.{Standing}
 use Rattle.scratch.specs.Refusal.{bodyRefusal}
 
--- The body stands in both slices, and the cells past its regions are as they were. Of its regions' cells, five of the eight of each side, and those
+-- The body stands in both slices, and the cells past its regions are as they were. Of its regions' cells, the five cells a side after the sides' three, and those
 -- of the faces' first polygons past the last face, are work: what they hold is the program's choice.
 pub record Put (s words words′ : List ℕ) (reals reals′ : List Float) : Type 0 where
   pub at : Regions

@@ -1,8 +1,7 @@
 // The shared segments alone, and the bodies alone.
-ghost use Prim.Native.Nat.{_+_, _*_};
 ghost use Rattle.file_part.specs.Layout.{vertexCount, polygonCount};
-ghost use Rattle.solid_segments.specs.Sides.{SharedSegments};
-ghost use Rattle.solid_bodies.specs.Body.{Bodies};
+ghost use Rattle.solid_segments.specs.Sides.{sideCells, SharedSegments};
+ghost use Rattle.solid_bodies.specs.Body.{bodyCells, Bodies};
 ghost use Rattle.probe_solid.specs.Stage.{StagePut};
 use file_part::read::polygon_count;
 use file_part::read::vertex_count;
@@ -10,11 +9,11 @@ use scratch::regions::Regions;
 use solid_bodies::label::bodies;
 use solid_segments::shared::shared_segments;
 
-// Puts the sides of a part and their pairs into the lent cells, eight a side, and answers 0; or answers the refusal, 1 to 7 or 10, and changes
-// nothing.
+// Puts the ends, the polygons and the pairs of a part's sides into the first of the lent cells, of which it needs eight a side for its work, and answers
+// 0; or answers the refusal, 1 to 7 or 10, and changes nothing.
 #[no_mangle]
 pub extern "C" fn gablemadder_shared_segments(file: &[u8], mem: &mut [u32]) -> u32
-    ensures { λ r. ⌜ StagePut (now (file .entry)) (8 * vertexCount (now (file .entry))) SharedSegments (now (mem .entry)) (now (mem .exit)) r ⌝ }
+    ensures { λ r. ⌜ StagePut (now (file .entry)) (sideCells (vertexCount (now (file .entry)))) SharedSegments (now (mem .entry)) (now (mem .exit)) r ⌝ }
 {
     let refusal = file_ok::verdict::judge(file).refusal();
     if refusal != 0 {
@@ -34,7 +33,7 @@ pub extern "C" fn gablemadder_shared_segments(file: &[u8], mem: &mut [u32]) -> u
 // cells needed past the polygons' are the work of finding them.
 #[no_mangle]
 pub extern "C" fn gablemadder_bodies(file: &[u8], mem: &mut [u32]) -> u32
-    ensures { λ r. ⌜ StagePut (now (file .entry)) (polygonCount (now (file .entry)) + 6 * vertexCount (now (file .entry))) Bodies (now (mem .entry)) (now (mem .exit)) r ⌝ }
+    ensures { λ r. ⌜ StagePut (now (file .entry)) (bodyCells (polygonCount (now (file .entry))) (vertexCount (now (file .entry)))) Bodies (now (mem .entry)) (now (mem .exit)) r ⌝ }
 {
     let refusal = file_ok::verdict::judge(file).refusal();
     if refusal != 0 {

@@ -78,7 +78,7 @@ farFace t k = faceBeyond t (cornerSide t k)
 unfoldable pub segmentLength : Part → ℕ → Float
 segmentLength t s = lengthOf (minus (t .vertex (toOf t s)) (t .vertex s))
 
--- "e.0 += ..": one corner after the other
+-- `e.0 += ..`: one corner after the other
 unfoldable pub lengthFrom : Part → Float → List ℕ → Float
 lengthFrom t x [] = x
 lengthFrom t x (k ∷ l) = lengthFrom t (add binary64 x (segmentLength t (cornerSide t k))) l
@@ -109,6 +109,6 @@ cornerOf t (k ∷ l) =
       high = higherNormal t (cornerSide t k);
     }
 
--- ---- "for ((a, b), (length, mid, na, nb)) in corners": what h makes of each two faces with corners between them, by rising ids, and of those corners
+-- ---- `for ((a, b), (length, mid, na, nb)) in corners`: what h makes of each two faces with corners between them, by rising ids, and of those corners
 unfoldable pub overCorners : {X : Type 0} → Part → (ℕ → ℕ → List ℕ → List X) → List X
 overCorners t h = overFacePairs t (nearFace t) (farFace t) (cornerCount t) h

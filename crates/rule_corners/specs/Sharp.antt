@@ -1,4 +1,4 @@
--- "Sharp inside corner" of dfm.rs's `machining`. Definitions only.
+-- The rule `Sharp inside corner` of dfm.rs's `machining`. Definitions only.
 use mathlib.Core.Bool.{Bool, _||_, cond}
 use mathlib.Core.List.{List, [], _∷_}
 use Prim.Native.Nat.{ℕ}

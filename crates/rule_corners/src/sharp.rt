@@ -1,4 +1,4 @@
-// "Sharp inside corner": corners that no tool reaches square to one of their faces.
+// The rule `Sharp inside corner`: corners that no tool reaches square to one of their faces.
 ghost use mathlib.Core.Path.{_≡_};
 ghost use Prim.Native.Nat.{_+_, _≤_, _<_};
 ghost use Rattle.list_laws.specs.Region.{part};

@@ -8,6 +8,9 @@
 --   least-accepted                      the least reading of two faces is a number that is printed
 --   thin-wall-one, thin-wall-none       one wall
 --   met-none, met-next, met-all, wall-room              the walk over the walls
+-- RuleLaws: one rule after the other
+-- NoneLaws: machining-none               a part without polygons has no faults
 pub mod RoundLaws
 pub mod WallLaws
 pub mod RuleLaws
+pub mod NoneLaws

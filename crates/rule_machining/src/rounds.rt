@@ -1,4 +1,4 @@
-// Holes and inside corners: "Small hole", "Deep hole", "Tight inside radius", "Deep inside corner".
+// Holes and inside corners: `Small hole`, `Deep hole`, `Tight inside radius`, `Deep inside corner`.
 ghost use Prim.Native.Nat.{_+_, _*_, _≤_, _<_};
 ghost use Rattle.file_part.specs.Part.{partOf};
 ghost use Rattle.solid_faces.specs.Faces.{facesOf};

@@ -1,4 +1,4 @@
-// "Thin wall".
+// `Thin wall`.
 ghost use mathlib.Core.Path.{_≡_};
 ghost use mathlib.Core.Bool.{cond};
 ghost use Prim.Native.Nat.{_+_, _≤_, _<_};

@@ -25,7 +25,7 @@ use Rattle.file_ok.proofs.ReadableLaws.{readable-counts, readable-vertex, reada
 use Rattle.file_ok.proofs.PolygonLaws.{start-more}
 use Rattle.solid_segments.specs.Key.{bodyScale, keyPart, sameKey, fromZero, keyCell}
 use Rattle.solid_segments.proofs.KeyLaws.{int-same, key-parts, key-whole, body-key, from-zero-same}
-use Rattle.solid_bodies.specs.Body.{CornerOf, Touch, Lowest, Bodies}
+use Rattle.solid_bodies.specs.Body.{CornerOf, Touch, Lowest, bodyCells, Bodies}
 use Rattle.solid_bodies.specs.Forest.{Carries}
 use Rattle.list_laws.specs.Region.{part}
 use Rattle.solid_bodies.specs.Table.{KeyNumbers, Meet, keyAt, cornersOf, Memory, Labelled}
@@ -272,7 +272,7 @@ module _ (s : List ℕ) (n : ℕ) (c : List ℕ) (h : Readable s) (vs : n ≡ ve
 
 -- ---- the memory with the corners put, and the labels that come of it
 module _ (s : List ℕ) (n p : ℕ) (mem c : List ℕ) (h : Readable s) (vs : n ≡ vertexCount s) (ps : p ≡ polygonCount s)
-    (long : length mem ≡ polygonCount s + 6 * vertexCount s) (c-long : length c ≡ length (part p (p + 4 * n) mem)) (d : Cornered (partOf s) n c) where
+    (long : length mem ≡ bodyCells (polygonCount s) (vertexCount s)) (c-long : length c ≡ length (part p (p + 4 * n) mem)) (d : Cornered (partOf s) n c) where
   abbrev put : List ℕ
   put = putMid p (p + 4 * n - p) mem c
 
@@ -296,7 +296,7 @@ module _ (s : List ℕ) (n p : ℕ) (mem c : List ℕ) (h : Readable s) (vs : n 
   pub bodies-are : (mem′ : List ℕ) → Labelled p n put mem′ → Bodies (partOf s) mem′
   unfolding partOf
   bodies-are mem′ r =
-      let same : length mem′ ≡ polygonCount s + 6 * vertexCount s = r .long ∙ put-long ∙ long in
+      let same : length mem′ ≡ bodyCells (polygonCount s) (vertexCount s) = r .long ∙ put-long ∙ long in
       let low : (i : ℕ) → i < polygonCount s → Lowest (Touch (partOf s)) i (getD mem′ i 0) =
       λ i l. lowest-carried (meet-touch s n c h vs d) (touch-meet s n c h vs d)
       (subst (λ (k : List ℕ). Lowest (Meet (cornersOf n k)) i (getD mem′ i 0)) corners-are (r .labels i (omega (arith, ps, l)))) in

@@ -65,7 +65,11 @@ pub record Labels (t : Part) (l : List ℕ) : Type 0 where
   pub each : (p : ℕ) → p < t .polygons → getD l p 0 ≡ bodyOf t p
   pub long : t .polygons ≤ length l
 
+-- the cells that `bodies` is lent for p polygons of v vertices: a label each, and its work
+abbrev pub bodyCells : ℕ → ℕ → ℕ
+bodyCells p v = p + 6 * v
+
 -- what `bodies` leaves
 pub record Bodies (t : Part) (mem : List ℕ) : Type 0 where
   pub labels : Labels t mem
-  pub long : length mem ≡ t .polygons + 6 * t .vertices
+  pub long : length mem ≡ bodyCells (t .polygons) (t .vertices)

@@ -5,7 +5,7 @@ ghost use lib.ListN.{length};
 ghost use Rattle.file_part.specs.Layout.{vertexCount, polygonCount};
 ghost use Rattle.file_part.specs.Part.{partOf};
 ghost use Rattle.file_ok.specs.Verdict.{Readable};
-ghost use Rattle.solid_bodies.specs.Body.{Bodies};
+ghost use Rattle.solid_bodies.specs.Body.{bodyCells, Bodies};
 ghost use Rattle.solid_bodies.specs.Table.{Memory, Scanned, Step, Labelled};
 use crate::corner::put_corners;
 use crate::forest::flatten;
@@ -61,7 +61,7 @@ fn join(mem: &mut [u32], p: usize, n: usize)
 
 // The labels of all polygons, in the first P cells. What the memory held before plays no part.
 pub fn bodies(file: &[u8], mem: &mut [u32])
-    requires { ⌜ Readable (now file) ⌝ ∗ ⌜ length (now mem) ≡ polygonCount (now file) + 6 * vertexCount (now file) ⌝ }
+    requires { ⌜ Readable (now file) ⌝ ∗ ⌜ length (now mem) ≡ bodyCells (polygonCount (now file)) (vertexCount (now file)) ⌝ }
     ensures { λ _. ⌜ Bodies (partOf (now (file .entry))) (now (mem .exit)) ⌝ }
 {
     let n = vertex_count(file);

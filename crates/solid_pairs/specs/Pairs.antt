@@ -8,7 +8,7 @@ use Rattle.solid_faces.specs.Faces.{facesOf}
 use Rattle.solid_ids.specs.Ids.{faceBefore}
 use Rattle.solid_ranks.specs.Ranks.{faceOfRank}
 
--- "if a <= b { (a, b) } else { (b, a) }", by ids: the face of the lower id ..
+-- `if a <= b { (a, b) } else { (b, a) }`, by ids: the face of the lower id ..
 unfoldable pub lower : Part → ℕ → ℕ → ℕ
 lower t f g = cond (faceBefore t g f) g f
 

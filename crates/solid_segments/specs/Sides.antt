@@ -59,6 +59,10 @@ AloneIn t s = Alone (sameSide t) (t .vertices) s
 abbrev pub FirstOfMany : Part → ℕ → Type 0
 FirstOfMany t s = Many (sameSide t) (t .vertices) s
 
+-- the cells that `shared_segments` is lent for v sides: eight each while they are paired
+abbrev pub sideCells : ℕ → ℕ
+sideCells v = 8 * v
+
 -- What `shared_segments` leaves, three cells for each side s of a part: the vertex where it ends, its polygon, and the pair of s. The
 -- shared segments in the order "in which their key first appears, by polygon, then side" are the s in rising order with a pair of s + 2
 -- to V; `pairOf` keeps one side, two and more of a key apart.

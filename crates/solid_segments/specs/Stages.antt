@@ -12,7 +12,7 @@ use Rattle.file_ok.specs.Verdict.{Readable}
 use Rattle.solid_segments.specs.Key.{segmentScale, keyCell}
 use Rattle.solid_keys.specs.Columns.{col}
 use Rattle.solid_keys.specs.Pair.{pairOf}
-use Rattle.solid_segments.specs.Sides.{ownerOf, toOf, sameSide}
+use Rattle.solid_segments.specs.Sides.{ownerOf, toOf, sameSide, sideCells}
 
 -- where the run of polygon p of a file begins
 abbrev pub startOf : List ℕ → ℕ → ℕ
@@ -64,11 +64,11 @@ OwnsRun file mem new p = OwnsMore (partOf file) mem new (startOf file p) (startO
 pub record Lent (file mem : List ℕ) (v : ℕ) : Type 0 where
   pub readable : Readable file
   pub is-count : v ≡ vertexCount file
-  pub long : length mem ≡ 8 * v
+  pub long : length mem ≡ sideCells v
 
 -- the sides once they are paired, eight cells each: in column 7 the pair of side s, in column 3 the vertex where it ends, in column 4 its polygon
 pub record PairedSides (t : Part) (mem : List ℕ) : Type 0 where
-  pub long : length mem ≡ 8 * t .vertices
+  pub long : length mem ≡ sideCells (t .vertices)
   pub pairs : (s : ℕ) → s < t .vertices → col mem 7 s ≡ pairOf (sameSide t) (t .vertices) s
   pub ends : (s : ℕ) → s < t .vertices → col mem 3 s ≡ toOf t s
   pub owners : (s : ℕ) → s < t .vertices → col mem 4 s ≡ ownerOf t s

@@ -7,7 +7,7 @@ ghost use Rattle.file_field.specs.Field.{vecAt};
 ghost use Rattle.file_part.specs.Layout.{vertexCount, polygonCount};
 ghost use Rattle.file_part.specs.Part.{partOf};
 ghost use Rattle.file_ok.specs.Verdict.{Readable};
-ghost use Rattle.solid_segments.specs.Sides.{nextOf, SharedSegments};
+ghost use Rattle.solid_segments.specs.Sides.{nextOf, sideCells, SharedSegments};
 ghost use Rattle.solid_segments.specs.Stages.{startOf, RunAt, sideRow, Lent, PlacedBelow, OwnsMore, OwnsRun};
 use crate::key::key_cell;
 use crate::pack::pack_sides;
@@ -123,7 +123,7 @@ fn put_owners(file: &[u8], mem: &mut [u32], vertices: usize, polygons: usize)
 // The end, the polygon and the pair of every side, in three cells for each; the five cells a side after them are work. What the cells held before
 // plays no part.
 pub fn shared_segments(file: &[u8], mem: &mut [u32])
-    requires { ⌜ Readable (now file) ⌝ ∗ ⌜ length (now mem) ≡ 8 * vertexCount (now file) ⌝ }
+    requires { ⌜ Readable (now file) ⌝ ∗ ⌜ length (now mem) ≡ sideCells (vertexCount (now file)) ⌝ }
     ensures { λ _. ⌜ SharedSegments (partOf (now (file .entry))) (now (mem .exit)) ⌝ }
 {
     let vertices = vertex_count(file);

@@ -18,15 +18,15 @@ faceFrom t s = faceNumber t (reading (readingsOf t) s .polygon)
 unfoldable pub faceHit : Part → ℕ → ℕ
 faceHit t s = faceNumber t (reading (readingsOf t) s .hit)
 
--- "for ((a, b), t) in thinnest": what h makes of each two faces with readings between them, by rising ids, and of those readings
+-- `for ((a, b), t) in thinnest`: what h makes of each two faces with readings between them, by rising ids, and of those readings
 unfoldable pub overWalls : {X : Type 0} → Part → (ℕ → ℕ → List ℕ → List X) → List X
 overWalls t h = overFacePairs t (faceFrom t) (faceHit t) (length (readingsOf t)) h
 
--- "*e = e.min(s.thickness)", one reading after the other, from x on ..
+-- `*e = e.min(s.thickness)`, one reading after the other, from x on ..
 unfoldable pub leastFrom : Part → Float → List ℕ → Float
 leastFrom t x [] = x
 leastFrom t x (s ∷ l) = leastFrom t (minOf x (reading (readingsOf t) s .thickness)) l
 
--- .. which is "or_insert(f64::INFINITY)"
+-- .. which is `or_insert(f64::INFINITY)`
 unfoldable pub leastOf : Part → List ℕ → Float
 leastOf t l = leastFrom t (inf false) l

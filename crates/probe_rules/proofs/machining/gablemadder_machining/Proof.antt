@@ -7,9 +7,6 @@ use Rattle.probe_rules.proofs.AnswerLaws.{machining-refused, machining-
 use Rattle.probe_rules.proofs.machining.gablemadder_machining.Statement.{statement}
 use Rattle.probe_rules.proofs.machining.gablemadder_machining.Tie as tie
 
-body-refusal-requires : tie.Need-body-refusal-requires
-body-refusal-requires c κs = search needs
-
 returns : tie.Need-returns
 returns c = machining-refused _ _ _ _ (c .before .body-refusal .ensures) _ _ (c .if1 .taken)
 
@@ -47,7 +44,7 @@ pub gablemadder-machining-spec : {M : Type 1} → statement M
 gablemadder-machining-spec =
     tie.close
     (tie.spec
-    body-refusal-requires
+    (λ c κs. search needs)
     returns
     of-requires
     put-body-requires

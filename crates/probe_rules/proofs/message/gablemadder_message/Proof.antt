@@ -12,12 +12,6 @@ returns c = no-cells _ _ _ _ (c .if1 .taken)
 returns-2 : tie.Need-returns-2
 returns-2 c = no-numbers _ _ _ _ (c .if2 .taken)
 
-judge-requires : tie.Need-judge-requires
-judge-requires c κs = search needs
-
-refusal-requires : tie.Need-refusal-requires
-refusal-requires c κs = search needs
-
 returns-3 : tie.Need-returns-3
 returns-3 c = no-part _ _ _ _ _ _ (c .before .before .judge .ensures) (c .before .refusal .ensures) (c .if3 .taken)
 
@@ -26,9 +20,6 @@ row-at-requires c κs = (omega (arith, c .before .before .before .before .before
 
 put-message-requires : tie.Need-put-message-requires
 put-message-requires c κs = is-checked _ _ _ (c .before .before .before .before .judge .ensures) (c .before .before .before .refusal .ensures) (c .before .before .if3 .left)
-
-same-length : tie.Need-same-length
-same-length c = search needs
 
 returns-4 : tie.Need-returns-4
 returns-4 c = message-written _ _ _ _ _ _ _ _ _ (c .before .before .before .before .before .before .before .before .before .if1 .left) (c .before .before .before .before .before .before .before .before .if2 .left) (c .before .before .before .before .before .before .before .judge .ensures) (c .before .before .before .before .before .before .refusal .ensures) (c .before .before .before .before .before .if3 .left) (c .before .before .before .row-at .ensures) (c .before .before .put-message .ensures)
@@ -39,10 +30,10 @@ gablemadder-message-spec =
     (tie.spec
     returns
     returns-2
-    judge-requires
-    refusal-requires
+    (λ c κs. search needs)
+    (λ c κs. search needs)
     returns-3
     row-at-requires
     put-message-requires
-    same-length
+    (λ c. search needs)
     returns-4)

@@ -8,9 +8,6 @@ use Rattle.rule_corners.proofs.corner.put_corner.Tie as tie
 find-requires : tie.Need-find-requires
 find-requires c κs = (c .before .before .before .before .before .pre .0, c .before .before .before .before .before .pre .1 .1 .1 .0)
 
-enum-known-found : tie.Need-enum-known-found
-enum-known-found c = search needs
-
 pair-of-requires : tie.Need-pair-of-requires
 pair-of-requires c κs = (c .before .before .before .before .before .before .before .before .before .before .pre .0 .placed, (c .before .before .before .before .before .before .before .before .before .before .pre .0 .words-room, (c .before .before .before .before .before .before .before .before .before .before .pre .1 .0, (c .before .before .before .before .before .before .before .before .before .before .pre .1 .1 .0, found-below _ _ _ _ (c .before .before .before .before .before .before .before .before .before .before .pre .0) _ _ _ _ (c .before .before .before .before .before .before .before .before .before .before .pre .1 .1 .0) (c .before .before .before .before .before .before .before .before .before .before .pre .1 .1 .1 .0) (found-is _ _ _ _ _ (c .before .before .before .before .find .ensures) (c .before .before .found .given .1))))))
 
@@ -38,23 +35,8 @@ slice-write-reals c = omega (arith, c .before .before .before .before .before .b
 add-result : tie.Need-add-result
 add-result c = omega (arith, c .before .before .before .before .before .before .before .before .before .before .before .pre .0 .placed .laid, c .before .before .before .before .before .before .before .before .before .before .before .pre .0 .words-room, c .before .before .before .before .before .before .before .before .before .before .before .pre .0 .reals-room, c .before .before .before .before .before .before .before .before .before .before .before .pre .1 .1 .1)
 
-enum-told : tie.Need-enum-told
-enum-told c = search needs
-
-same-length : tie.Need-same-length
-same-length c = search needs
-
-same-length-2 : tie.Need-same-length-2
-same-length-2 c = search needs
-
 returns : tie.Need-returns
 returns c = put-one _ _ _ _ _ _ _ _ _ (found-is _ _ _ _ _ (c .before .before .before .before .before .find .ensures) (c .before .before .before .found .given .1)) (c .pair-of .ensures) (c .before .before .before .before .before .before .before .before .before .before .before .pre .0 .placed .laid) (c .before .before .before .before .before .before .before .before .before .before .before .pre .0 .words-room) (c .before .before .before .before .before .before .before .before .before .before .before .pre .0 .reals-room) (c .before .before .before .before .before .before .before .before .before .before .before .pre .1 .1 .1 .0) (c .before .before .before .before .before .before .before .before .before .before .before .pre .1 .1 .1 .1)
-
-same-length-3 : tie.Need-same-length-3
-same-length-3 c = search needs
-
-same-length-4 : tie.Need-same-length-4
-same-length-4 c = search needs
 
 returns-2 : tie.Need-returns-2
 returns-2 c = put-none _ _ _ _ _ _ (found-none _ _ _ (c .before .before .find .ensures) (c .enum-told .given .1))
@@ -64,7 +46,7 @@ put-corner-spec =
     tie.close
     (tie.spec
     find-requires
-    enum-known-found
+    (λ c. search needs)
     pair-of-requires
     cast-words
     add-words
@@ -74,10 +56,10 @@ put-corner-spec =
     mul-reals
     slice-write-reals
     add-result
-    enum-told
-    same-length
-    same-length-2
+    (λ c. search needs)
+    (λ c. search needs)
+    (λ c. search needs)
     returns
-    same-length-3
-    same-length-4
+    (λ c. search needs)
+    (λ c. search needs)
     returns-2)

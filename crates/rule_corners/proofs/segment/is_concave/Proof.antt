@@ -37,20 +37,11 @@ part-plane-at-end-2 c = omega (arith, c .before .before .before .before .before 
 plane-at-requires-2 : tie.Need-plane-at-requires-2
 plane-at-requires-2 c κs = omega (arith, c .before .before .before .before .before .before .pre .1 .1, c .before .before .before .before .before .before .pre .0 .the-reals .planes .long)
 
-dot-requires : tie.Need-dot-requires
-dot-requires c κs = search needs
-
 returns : tie.Need-returns
 returns c = level _ _ _ _ _ (c .before .before .before .before .plane-at .ensures ∙ c .before .before .before .before .before .before .before .before .before .pre .0 .the-reals .planes .each _ (c .before .before .before .before .before .before .before .before .before .pre .1 .0)) (c .before .before .plane-at2 .ensures ∙ c .before .before .before .before .before .before .before .before .before .pre .0 .the-reals .planes .each _ (c .before .before .before .before .before .before .before .before .before .pre .1 .1)) _ (c .before .dot .ensures) (not-true _ (c .if1 .taken))
 
 centroid-of-requires : tie.Need-centroid-of-requires
 centroid-of-requires c κs = (c .before .before .before .before .before .before .before .before .before .pre .0 .placed .checked, (c .before .before .before .before .before .before .before .before .before .pre .0 .placed .vertices, omega (arith, c .before .before .before .before .before .before .before .before .before .pre .1 .1, c .before .before .before .before .before .before .before .before .before .pre .0 .placed .polygons)))
-
-sub-requires : tie.Need-sub-requires
-sub-requires c κs = search needs
-
-dot-requires-2 : tie.Need-dot-requires-2
-dot-requires-2 c κs = search needs
 
 returns-2 : tie.Need-returns-2
 returns-2 c = leaning _ _ _ _ _ (c .before .before .before .before .before .before .before .plane-at .ensures ∙ c .before .before .before .before .before .before .before .before .before .before .before .before .pre .0 .the-reals .planes .each _ (c .before .before .before .before .before .before .before .before .before .before .before .before .pre .1 .0)) (c .before .before .before .before .before .plane-at2 .ensures ∙ c .before .before .before .before .before .before .before .before .before .before .before .before .pre .0 .the-reals .planes .each _ (c .before .before .before .before .before .before .before .before .before .before .before .before .pre .1 .1)) _ (c .before .before .before .before .dot .ensures) _ _ _ (not-false _ (c .before .before .before .if1 .left)) (c .before .before .centroid-of .ensures) (c .before .sub .ensures) (c .dot2 .ensures)
@@ -69,9 +60,9 @@ is-concave-spec =
     part-plane-at-start-2
     part-plane-at-end-2
     plane-at-requires-2
-    dot-requires
+    (λ c κs. search needs)
     returns
     centroid-of-requires
-    sub-requires
-    dot-requires-2
+    (λ c κs. search needs)
+    (λ c κs. search needs)
     returns-2)

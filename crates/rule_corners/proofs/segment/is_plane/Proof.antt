@@ -4,9 +4,6 @@ use Rattle.rule_corners.proofs.SegmentLaws.{plane-is, other-is}
 use Rattle.rule_corners.proofs.segment.is_plane.Statement.{statement}
 use Rattle.rule_corners.proofs.segment.is_plane.Tie as tie
 
-enum-told : tie.Need-enum-told
-enum-told c = search needs
-
 returns : tie.Need-returns
 returns c = plane-is _ (c .before .match .keys1)
 
@@ -17,6 +14,6 @@ pub is-plane-spec : {M : Type 1} → statement M
 is-plane-spec =
     tie.close
     (tie.spec
-    enum-told
+    (λ c. search needs)
     returns
     returns-2)

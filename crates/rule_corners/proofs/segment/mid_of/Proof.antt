@@ -16,12 +16,6 @@ vertex-requires c κs = omega (arith, c .before .before .before .before .pre .1,
 vertex-requires-2 : tie.Need-vertex-requires-2
 vertex-requires-2 c κs = omega (arith, c .before .side-end .ensures .1, readable-length _ (checked-readable _ (c .before .before .before .before .before .pre .0 .placed .checked)), c .before .before .before .before .before .pre .0 .placed .vertices)
 
-add-requires : tie.Need-add-requires
-add-requires c κs = search needs
-
-mul-requires : tie.Need-mul-requires
-mul-requires c κs = search needs
-
 returns : tie.Need-returns
 returns c = mid-is _ _ _ _ _ _ _ (c .before .before .before .before .side-end .ensures .0) (c .before .before .before .vertex .ensures) (c .before .before .vertex2 .ensures) (c .before .add .ensures) (c .mul .ensures)
 
@@ -32,6 +26,6 @@ mid-of-spec =
     side-end-requires
     vertex-requires
     vertex-requires-2
-    add-requires
-    mul-requires
+    (λ c κs. search needs)
+    (λ c κs. search needs)
     returns)

@@ -13,9 +13,6 @@ entry-at-requires c κs = let room = entry-room _ _ _ _ (checked-readable _ (c .
 surface-requires : tie.Need-surface-requires
 surface-requires c κs = omega (arith, (entry-room _ _ _ _ (checked-readable _ (c .before .before .pre .0)) (c .before .before .pre .1 .0) refl (c .before .before .pre .1 .1)) .inside, c .entry-at .ensures)
 
-is-plane-requires : tie.Need-is-plane-requires
-is-plane-requires c κs = search needs
-
 returns : tie.Need-returns
 returns c = surface-is _ _ _ _ _ _ (c .before .before .before .before .pre .1 .0) (c .before .before .entry-at .ensures) (c .before .surface .ensures) (c .is-plane .ensures)
 
@@ -25,5 +22,5 @@ on-plane-spec =
     (tie.spec
     entry-at-requires
     surface-requires
-    is-plane-requires
+    (λ c κs. search needs)
     returns)

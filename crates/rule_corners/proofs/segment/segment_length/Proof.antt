@@ -16,12 +16,6 @@ vertex-requires c κs = omega (arith, c .side-end .ensures .1, readable-length _
 vertex-requires-2 : tie.Need-vertex-requires-2
 vertex-requires-2 c κs = omega (arith, c .before .before .before .before .before .pre .1, readable-length _ (checked-readable _ (c .before .before .before .before .before .pre .0 .placed .checked)), c .before .before .before .before .before .pre .0 .placed .vertices)
 
-sub-requires : tie.Need-sub-requires
-sub-requires c κs = search needs
-
-length-requires : tie.Need-length-requires
-length-requires c κs = search needs
-
 returns : tie.Need-returns
 returns c = length-is _ _ _ _ _ _ _ (c .before .before .before .before .side-end .ensures .0) (c .before .before .before .vertex .ensures) (c .before .before .vertex2 .ensures) (c .before .sub .ensures) (c .length .ensures)
 
@@ -32,6 +26,6 @@ segment-length-spec =
     side-end-requires
     vertex-requires
     vertex-requires-2
-    sub-requires
-    length-requires
+    (λ c κs. search needs)
+    (λ c κs. search needs)
     returns)

@@ -4,9 +4,6 @@ use Rattle.rule_corners.specs.Sharp.{filletOf}
 use Rattle.rule_corners.proofs.sharp.fillet_of.Statement.{statement}
 use Rattle.rule_corners.proofs.sharp.fillet_of.Tie as tie
 
-max-requires : tie.Need-max-requires
-max-requires c κs = search needs
-
 returns : tie.Need-returns
 unfolding filletOf
 returns c = c .max .ensures
@@ -15,5 +12,5 @@ pub fillet-of-spec : {M : Type 1} → statement M
 fillet-of-spec =
     tie.close
     (tie.spec
-    max-requires
+    (λ c κs. search needs)
     returns)

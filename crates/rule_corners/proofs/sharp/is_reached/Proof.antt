@@ -5,23 +5,11 @@ use Rattle.rule_corners.proofs.SharpLaws.{reached-first, reached-second
 use Rattle.rule_corners.proofs.sharp.is_reached.Statement.{statement}
 use Rattle.rule_corners.proofs.sharp.is_reached.Tie as tie
 
-mul-requires : tie.Need-mul-requires
-mul-requires c κs = search needs
-
-add-requires : tie.Need-add-requires
-add-requires c κs = search needs
-
 open-towards-requires : tie.Need-open-towards-requires
 open-towards-requires c κs = c .before .before .before .before .before .before .before .before .pre
 
 returns : tie.Need-returns
 returns c = reached-first _ _ _ _ _ (c .before .before .before .mul .ensures) (c .before .before .add .ensures) (c .before .open-towards .ensures) (c .if1 .taken)
-
-mul-requires-2 : tie.Need-mul-requires-2
-mul-requires-2 c κs = search needs
-
-add-requires-2 : tie.Need-add-requires-2
-add-requires-2 c κs = search needs
 
 open-towards-requires-2 : tie.Need-open-towards-requires-2
 open-towards-requires-2 c κs = c .before .before .before .before .before .before .before .before .before .before .before .before .pre
@@ -33,11 +21,11 @@ pub is-reached-spec : {M : Type 1} → statement M
 is-reached-spec =
     tie.close
     (tie.spec
-    mul-requires
-    add-requires
+    (λ c κs. search needs)
+    (λ c κs. search needs)
     open-towards-requires
     returns
-    mul-requires-2
-    add-requires-2
+    (λ c κs. search needs)
+    (λ c κs. search needs)
     open-towards-requires-2
     returns-2)

@@ -21,9 +21,6 @@ cast-t11 c = omega (arith, c .before .before .before .before .before .before .be
 cast-t12 : tie.Need-cast-t12
 cast-t12 c = omega (arith, c .before .before .before .before .before .before .before .before .before .before .before .pre .1 .second-below, checked-faces _ (c .before .before .before .before .before .before .before .before .before .before .before .pre .0 .standing .placed .checked))
 
-fillet-of-requires : tie.Need-fillet-of-requires
-fillet-of-requires c κs = search needs
-
 put-row-requires : tie.Need-put-row-requires
 put-row-requires c κs = c .before .before .before .before .before .before .before .before .before .before .before .before .before .before .pre .1 .few
 
@@ -45,7 +42,7 @@ put-sharp-spec =
     returns
     cast-t11
     cast-t12
-    fillet-of-requires
+    (λ c κs. search needs)
     put-row-requires
     same-length
     same-length-2

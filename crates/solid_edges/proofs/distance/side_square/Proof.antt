@@ -14,15 +14,6 @@ vertex-requires c κs = vertex-room (c .before .before .before .before .pre .0) 
 vertex-requires-2 : tie.Need-vertex-requires-2
 vertex-requires-2 c κs = vertex-room (c .before .before .before .before .before .pre .0) _ (c .before .end-at .ensures .1)
 
-nearest-on-requires : tie.Need-nearest-on-requires
-nearest-on-requires c κs = search needs
-
-sub-requires : tie.Need-sub-requires
-sub-requires c κs = search needs
-
-length-sq-requires : tie.Need-length-sq-requires
-length-sq-requires c κs = search needs
-
 returns : tie.Need-returns
 returns c = square-is _ _ _ _ _ _ _ _ _ (c .before .before .before .before .before .end-at .ensures .0) (c .before .before .before .before .vertex .ensures) (c .before .before .before .vertex2 .ensures) (c .before .before .nearest-on .ensures) (c .before .sub .ensures) (c .length-sq .ensures)
 
@@ -33,7 +24,7 @@ side-square-spec =
     end-at-requires
     vertex-requires
     vertex-requires-2
-    nearest-on-requires
-    sub-requires
-    length-sq-requires
+    (λ c κs. search needs)
+    (λ c κs. search needs)
+    (λ c κs. search needs)
     returns)

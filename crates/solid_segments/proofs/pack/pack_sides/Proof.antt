@@ -19,12 +19,6 @@ loop-holds c = (omega arith, packed-none _)
 pack-side-requires : tie.Need-pack-side-requires Inv-loop μ-loop
 pack-side-requires c κs = (omega (arith, c .before .before .before .before .pre, c .before .loop-test .taken, c .before .before .loop .inv .1 .long), omega (arith, c .before .before .before .before .pre, c .before .loop-test .taken))
 
-add-s : tie.Need-add-s Inv-loop μ-loop
-add-s c = search needs
-
-loop-less : tie.Need-loop-less Inv-loop μ-loop
-loop-less c = search needs
-
 loop-again : tie.Need-loop-again Inv-loop μ-loop
 loop-again c = (omega (arith, c .before .before .before .before .loop-test .taken), c .before .before .pack-side .ensures .packed _ (c .before .before .before .before .before .loop .inv .1))
 
@@ -42,8 +36,8 @@ pack-sides-spec =
     μ-loop
     loop-holds
     pack-side-requires
-    add-s
-    loop-less
+    (λ c. search needs)
+    (λ c. search needs)
     loop-again
     same-length
     returns)

@@ -35,9 +35,6 @@ returns : tie.Need-returns Inv-loop μ-loop
 unfolding hitOf
 returns c = some-struck (struck _ _) (hitTime _ _) _ _ _ (omega (arith, c .before .before .loop-test .taken, polygons-are _ _ (c .before .before .before .before .polygon-count .ensures))) (c .before .before .before .loop .inv .1) (c .before .strikes .ensures) (c .if1 .taken)
 
-add-p : tie.Need-add-p Inv-loop μ-loop
-add-p c = search needs
-
 loop-less : tie.Need-loop-less Inv-loop μ-loop
 loop-less c = omega (arith, c .before .before .loop-test .taken)
 
@@ -59,7 +56,7 @@ misses-spec =
     loop-holds
     strikes-requires
     returns
-    add-p
+    (λ c. search needs)
     loop-less
     loop-again
     returns-2)

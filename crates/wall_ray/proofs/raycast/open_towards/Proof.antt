@@ -11,21 +11,6 @@ use native.Mathlib.Omega.{arith}
 use Rattle.wall_ray.proofs.raycast.open_towards.Statement.{statement}
 use Rattle.wall_ray.proofs.raycast.open_towards.Tie as tie
 
-mul-requires : tie.Need-mul-requires
-mul-requires c κs = search needs
-
-add-requires : tie.Need-add-requires
-add-requires c κs = search needs
-
-mul-misses : tie.Need-mul-misses
-mul-misses c = search needs
-
-sub-misses : tie.Need-sub-misses
-sub-misses c = search needs
-
-part-misses-start : tie.Need-part-misses-start
-part-misses-start c = search needs
-
 part-misses-end : tie.Need-part-misses-end
 part-misses-end c = omega (arith, c .before .before .before .before .before .pre .reals-room, c .before .before .before .before .before .pre .placed .laid)
 
@@ -40,11 +25,11 @@ pub open-towards-spec : {M : Type 1} → statement M
 open-towards-spec =
     tie.close
     (tie.spec
-    mul-requires
-    add-requires
-    mul-misses
-    sub-misses
-    part-misses-start
+    (λ c κs. search needs)
+    (λ c κs. search needs)
+    (λ c. search needs)
+    (λ c. search needs)
+    (λ c. search needs)
     part-misses-end
     misses-requires
     returns)

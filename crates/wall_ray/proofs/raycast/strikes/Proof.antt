@@ -23,20 +23,11 @@ abbrev μ-loop : tie.MeasureT-loop
 plane-at-requires : tie.Need-plane-at-requires Inv-loop μ-loop
 plane-at-requires c κs = omega (arith, c .before .before .pre .1 .0 .long, c .before .before .pre .1 .1 .1)
 
-dot-requires : tie.Need-dot-requires Inv-loop μ-loop
-dot-requires c κs = search needs
-
 time-requires : tie.Need-time-requires Inv-loop μ-loop
 time-requires c κs = c .dot .ensures
 
-is-reached-requires : tie.Need-is-reached-requires Inv-loop μ-loop
-is-reached-requires c κs = search needs
-
 returns : tie.Need-returns Inv-loop μ-loop
 returns c = unreached _ _ _ _ _ _ _ (c .before .before .before .before .plane-at .ensures ∙ c .before .before .before .before .before .before .before .pre .1 .0 .each _ (c .before .before .before .before .before .before .before .pre .1 .1 .1)) (c .before .before .before .dot .ensures) (c .before .before .time .ensures) (c .before .is-reached .ensures) (not-true _ (c .if1 .taken))
-
-point-requires : tie.Need-point-requires Inv-loop μ-loop
-point-requires c κs = search needs
 
 entry-at-requires : tie.Need-entry-at-requires Inv-loop μ-loop
 entry-at-requires c κs = let e = entry-room _ _ _ _ (checked-readable _ (c .before .before .before .before .before .before .before .before .pre .0)) (c .before .before .before .before .before .before .before .before .pre .1 .1 .0) refl (c .before .before .before .before .before .before .before .before .pre .1 .1 .1) in (e .vertices, e .polygon)
@@ -56,9 +47,6 @@ is-within-requires c κs = (run-corners _ _ _ _ _ _ _ (checked-readable _ (c .be
 returns-2 : tie.Need-returns-2 Inv-loop μ-loop
 returns-2 c = passed-by _ _ _ _ _ _ _ (c .before .before .before .before .before .before .before .before .before .before .before .before .plane-at .ensures ∙ c .before .before .before .before .before .before .before .before .before .before .before .before .before .before .before .pre .1 .0 .each _ (c .before .before .before .before .before .before .before .before .before .before .before .before .before .before .before .pre .1 .1 .1)) (c .before .before .before .before .before .before .before .before .before .before .before .dot .ensures) (c .before .before .before .before .before .before .before .before .before .before .time .ensures) (c .before .before .before .before .before .before .before .before .before .is-reached .ensures) _ _ _ _ _ (c .before .before .before .before .before .before .before .before .before .before .before .before .before .before .before .pre .1 .1 .0) (c .before .before .before .before .before .before .entry-at .ensures) (c .before .before .before .before .before .first-vertex .ensures) (c .before .before .before .before .run-length .ensures .0) (c .before .before .before .before .before .before .before .point .ensures) _ _ (c .before .before .loop-test .taken) (c .before .is-within .ensures) (not-true _ (c .if2 .taken))
 
-add-k : tie.Need-add-k Inv-loop μ-loop
-add-k c = search needs
-
 loop-less : tie.Need-loop-less Inv-loop μ-loop
 loop-less c = omega (arith, c .before .before .loop-test .taken)
 
@@ -75,18 +63,18 @@ strikes-spec =
     Inv-loop
     μ-loop
     plane-at-requires
-    dot-requires
+    (λ c κs. search needs)
     time-requires
-    is-reached-requires
+    (λ c κs. search needs)
     returns
-    point-requires
+    (λ c κs. search needs)
     entry-at-requires
     first-vertex-requires
     run-length-requires
     loop-holds
     is-within-requires
     returns-2
-    add-k
+    (λ c. search needs)
     loop-less
     loop-again
     returns-3)
