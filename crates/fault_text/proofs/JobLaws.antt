@@ -9,6 +9,8 @@ use lib.ListN.{length, take, drop, length-take}
 use lib.Ieee.{Float, ofBits, le, lt, eq}
 use Rattle.num_float.specs.Within.{Within}
 use Rattle.num_float.proofs.Order.{lt-irrefl, lt-le}
+use Rattle.num_text.specs.Put.{bytes}
+use Rattle.num_text.specs.Number.{thousandths}
 use Rattle.num_text.specs.Decimal.{accepted}
 use Rattle.num_text.proofs.NeverRefused.{accepted-at}
 use Rattle.math.specs.Vector.{zero}
@@ -22,6 +24,7 @@ use Rattle.file_ok.proofs.ReadableLaws.{readable-length, readable-job}
 use Rattle.solid_faces.specs.Faces.{Checked}
 use Rattle.solid_faces.proofs.BodyLaws.{checked-readable}
 use Rattle.fault_text.specs.Job.{defaultMinWall, minWall, nameOr}
+use Rattle.fault_text.specs.Sheet.{ratioText}
 
 -- ---- where it stands
 abbrev place : List ℕ → ℕ
@@ -34,7 +37,7 @@ pub job-room : (s : List ℕ) (at : ℕ) → Checked s → at ≡ place s → at
 job-room s at h e = omega (arith, checked-length s h)
 
 -- the job that was read is the part's
-job-is : (s : List ℕ) (at : ℕ) (j : Job) → at ≡ place s → j ≡ jobAt s at → j ≡ partOf s .job
+pub job-is : (s : List ℕ) (at : ℕ) (j : Job) → at ≡ place s → j ≡ jobAt s at → j ≡ partOf s .job
 job-is s at j e q = q ∙ ap (jobAt s) e ∙ sym (part-job s)
 
 -- ---- the thinnest wall
@@ -79,6 +82,21 @@ module _ (s : List ℕ) (at : ℕ) (j : Job) (e : at ≡ place s) (q : j ≡ job
       let whole : j ≡ jobAt s (place s) = q ∙ ap (jobAt s) e in
       subst (λ (k : Job). k .material .«name_length» ≤ 40) (sym whole) (readable-job s (checked-readable s h) .the-material .length-to)
 
+-- ---- the bend ratio
+module _ (s : List ℕ) (j : Job) (q : j ≡ partOf s .job) where
+  abbrev ratio : Job → List ℕ
+  ratio k = cond (k .«has_material») (thousandths (k .material .«bend_ratio»)) (bytes "1")
+
+  is-ratio : ratio j ≡ ratioText (partOf s)
+  unfolding ratioText
+  is-ratio = ap ratio q
+
+  pub ratio-of-material : j .«has_material» ≡ true → thousandths (j .material .«bend_ratio») ≡ ratioText (partOf s)
+  ratio-of-material h = sym (ap (λ (b : Bool). cond b (thousandths (j .material .«bend_ratio»)) (bytes "1")) h) ∙ is-ratio
+
+  pub ratio-no-material : j .«has_material» ≡ false → bytes "1" ≡ ratioText (partOf s)
+  ratio-no-material h = sym (ap (λ (b : Bool). cond b (thousandths (j .material .«bend_ratio»)) (bytes "1")) h) ∙ is-ratio
+
 -- "Material min_wall 0 counts as 0.8", with a material or without
 pub min-wall-zero : (t : Part) → t .job .material .«min_wall» ≡ zero → minWall t ≡ defaultMinWall
 unfolding minWall
@@ -93,6 +111,9 @@ unfolding nameAt jobAt materialAt
 name-short s h =
     let n = readable-job s (checked-readable s h) .the-material .length-to in
     rw (part-name s) (simp length-take (omega (arith, n)))
+
+pub ratio-to : (s : List ℕ) → Checked s → partOf s .job .material .«bend_ratio» ≤ 100000
+ratio-to s h = subst (λ (j : Job). j .material .«bend_ratio» ≤ 100000) (sym (part-job s)) (readable-job s (checked-readable s h) .the-material .ratio-to)
 
 -- ---- the thinnest wall of an accepted file is a number that is printed
 default-accepted : accepted defaultMinWall 2 ≡ true

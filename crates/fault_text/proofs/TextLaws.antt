@@ -1,118 +1,140 @@
--- The text of a row by its kind, and how long it is.
+-- The text of a row by its kind, and by the process that its kind is of.
 use mathlib.Core.Path.{_≡_}
-use mathlib.Core.Bool.{Bool, true, false, cond}
-use mathlib.Core.List.{List, []}
-use Prim.Native.Nat.{ℕ, _≤_}
-use native.Mathlib.Omega.{arith}
-use lib.Dec.{eqb}
-use lib.ListN.{length, length-append}
-use lib.Ieee.{Float}
-use borrow.Author.Tests.{ne-eqb}
-use Rattle.num_text.specs.Put.{bytes}
-use Rattle.num_text.proofs.DecimalLaws.{decimalText-length}
-use Rattle.file_part.specs.Part.{Part, partOf}
-use Rattle.solid_faces.specs.Faces.{Checked}
+use mathlib.Core.List.{[]}
+use Prim.Native.Nat.{_≤_, _<_}
+use borrow.Author.Tests.{le-leb, lt-leb, ne-eqb}
+use Rattle.file_part.specs.Part.{Part}
 use Rattle.fault_row.specs.declared.row.Row.{Row}
-use Rattle.fault_text.specs.Kind.{thinWall, smallHole, deepHoleMax, deepHoleStandard, tightInsideRadius, deepInsideCorner, sharpInsideCorner}
-use Rattle.fault_text.specs.Job.{minWall, nameOr, workName}
-use Rattle.fault_text.specs.Text.{mm}
-use Rattle.fault_text.specs.Machining.{minDrill, minMillRadius, thinWallText, smallHoleText, deepHoleMaxText, deepHoleStandardText, tightInsideRadiusText, deepInsideCornerText, sharpInsideCornerText}
+use Rattle.fault_text.specs.Kind.{thinWall, smallHole, deepHoleMax, deepHoleStandard, tightInsideRadius, deepInsideCorner, sharpInsideCorner, noMaterial, material, notOneThickness, tightBend, shortFlange, sheetSmallHole, holeNearBend, holeNearEdge, thinnerThanALayer, fewLayers, thinnerThanTheNozzle, printThinWall, printSmallHole, overhang, enclosedHollowSla, enclosedHollowSls}
+use Rattle.fault_text.specs.Machining.{thinWallText, smallHoleText, deepHoleMaxText, deepHoleStandardText, tightInsideRadiusText, deepInsideCornerText, sharpInsideCornerText, machiningText}
+use Rattle.fault_text.specs.Sheet.{noMaterialText, materialText, notOneThicknessText, tightBendText, shortFlangeText, sheetSmallHoleText, holeNearBendText, holeNearEdgeText, sheetText}
+use Rattle.fault_text.specs.Printing.{thinnerThanALayerText, fewLayersText, thinnerThanTheNozzleText, printThinWallText, printSmallHoleText, overhangText, enclosedHollowSlaText, enclosedHollowSlsText, printingText}
 use Rattle.fault_text.specs.Meaning.{textOf}
-use Rattle.fault_text.proofs.JobLaws.{name-short}
 
--- ---- by kind
+-- ---- machining
 module _ (t : Part) (row : Row) where
-  pub text-thin-wall : row .kind ≡ thinWall → thinWallText t (row .x) ≡ textOf t row
-  unfolding textOf
+  pub text-thin-wall : row .kind ≡ thinWall → thinWallText t (row .x) ≡ machiningText t row
+  unfolding machiningText
   text-thin-wall e = rw e
 
-  pub text-small-hole : row .kind ≡ smallHole → smallHoleText (row .x) ≡ textOf t row
-  unfolding textOf
+  pub text-small-hole : row .kind ≡ smallHole → smallHoleText (row .x) ≡ machiningText t row
+  unfolding machiningText
   text-small-hole e = rw e
 
-  pub text-deep-hole-max : row .kind ≡ deepHoleMax → deepHoleMaxText (row .x) (row .y) (row .z) ≡ textOf t row
-  unfolding textOf
+  pub text-deep-hole-max : row .kind ≡ deepHoleMax → deepHoleMaxText (row .x) (row .y) (row .z) ≡ machiningText t row
+  unfolding machiningText
   text-deep-hole-max e = rw e
 
-  pub text-deep-hole-standard : row .kind ≡ deepHoleStandard → deepHoleStandardText (row .x) ≡ textOf t row
-  unfolding textOf
+  pub text-deep-hole-standard : row .kind ≡ deepHoleStandard → deepHoleStandardText (row .x) ≡ machiningText t row
+  unfolding machiningText
   text-deep-hole-standard e = rw e
 
-  pub text-tight-inside-radius : row .kind ≡ tightInsideRadius → tightInsideRadiusText (row .x) ≡ textOf t row
-  unfolding textOf
+  pub text-tight-inside-radius : row .kind ≡ tightInsideRadius → tightInsideRadiusText (row .x) ≡ machiningText t row
+  unfolding machiningText
   text-tight-inside-radius e = rw e
 
-  pub text-deep-inside-corner : row .kind ≡ deepInsideCorner → deepInsideCornerText (row .x) (row .y) (row .z) ≡ textOf t row
-  unfolding textOf
+  pub text-deep-inside-corner : row .kind ≡ deepInsideCorner → deepInsideCornerText (row .x) (row .y) (row .z) ≡ machiningText t row
+  unfolding machiningText
   text-deep-inside-corner e = rw e
 
-  pub text-sharp-inside-corner : row .kind ≡ sharpInsideCorner → sharpInsideCornerText (row .x) (row .y) ≡ textOf t row
-  unfolding textOf
+  pub text-sharp-inside-corner : row .kind ≡ sharpInsideCorner → sharpInsideCornerText (row .x) (row .y) ≡ machiningText t row
+  unfolding machiningText
   text-sharp-inside-corner e = rw e
 
-  pub text-none : (row .kind ≡ thinWall → ⊥) → (row .kind ≡ smallHole → ⊥) → (row .kind ≡ deepHoleMax → ⊥) → (row .kind ≡ deepHoleStandard → ⊥) →
-      (row .kind ≡ tightInsideRadius → ⊥) → (row .kind ≡ deepInsideCorner → ⊥) → (row .kind ≡ sharpInsideCorner → ⊥) → [] ≡ textOf t row
-  unfolding textOf
-  text-none a b c d e f g =
+  pub machining-none : (row .kind ≡ thinWall → ⊥) → (row .kind ≡ smallHole → ⊥) → (row .kind ≡ deepHoleMax → ⊥) → (row .kind ≡ deepHoleStandard → ⊥) →
+      (row .kind ≡ tightInsideRadius → ⊥) → (row .kind ≡ deepInsideCorner → ⊥) → (row .kind ≡ sharpInsideCorner → ⊥) → [] ≡ machiningText t row
+  unfolding machiningText
+  machining-none a b c d e f g =
       rw (ne-eqb _ _ a, ne-eqb _ _ b, ne-eqb _ _ c, ne-eqb _ _ d, ne-eqb _ _ e, ne-eqb _ _ f, ne-eqb _ _ g)
 
--- ---- how long: a decimal has at most 23 bytes, a name at most 40
-mm-short : (x : Float) → length (mm x) ≤ 26
-unfolding mm
-mm-short x = simp length-append (omega (arith, decimalText-length x 2))
+-- ---- sheet metal
+module _ (t : Part) (row : Row) where
+  pub text-no-material : row .kind ≡ noMaterial → noMaterialText ≡ sheetText t row
+  unfolding sheetText
+  text-no-material e = rw e
 
-name-or-short : (t : Part) → length (t .name) ≤ 40 → length (workName t) ≤ 40
-unfolding workName nameOr
-name-or-short t h = go (t .job .«has_material»)
-  where
-    go : (b : Bool) → length (cond b (t .name) (bytes "a machined part")) ≤ 40
-    go true = h
-    go false = omega arith
+  pub text-material : row .kind ≡ material → materialText t ≡ sheetText t row
+  unfolding sheetText
+  text-material e = rw e
 
-thin-wall-short : (t : Part) (x : Float) → length (t .name) ≤ 40 → length (thinWallText t x) ≤ 255
-unfolding thinWallText
-thin-wall-short t x h = simp length-append (omega (arith, mm-short x, mm-short (minWall t), name-or-short t h))
+  pub text-not-one-thickness : row .kind ≡ notOneThickness → notOneThicknessText (row .x) (row .y) (row .z) ≡ sheetText t row
+  unfolding sheetText
+  text-not-one-thickness e = rw e
 
-small-hole-short : (d : Float) → length (smallHoleText d) ≤ 255
-unfolding smallHoleText
-small-hole-short d = simp length-append (omega (arith, mm-short d, mm-short minDrill))
+  pub text-tight-bend : row .kind ≡ tightBend → tightBendText t (row .x) (row .y) ≡ sheetText t row
+  unfolding sheetText
+  text-tight-bend e = rw e
 
-deep-hole-max-short : (ratio d l : Float) → length (deepHoleMaxText ratio d l) ≤ 255
-unfolding deepHoleMaxText
-deep-hole-max-short ratio d l = simp length-append (omega (arith, decimalText-length ratio 1, mm-short d, mm-short l))
+  pub text-short-flange : row .kind ≡ shortFlange → shortFlangeText (row .x) (row .y) ≡ sheetText t row
+  unfolding sheetText
+  text-short-flange e = rw e
 
-deep-hole-standard-short : (ratio : Float) → length (deepHoleStandardText ratio) ≤ 255
-unfolding deepHoleStandardText
-deep-hole-standard-short ratio = simp length-append (omega (arith, decimalText-length ratio 1))
+  pub text-sheet-small-hole : row .kind ≡ sheetSmallHole → sheetSmallHoleText (row .x) (row .y) ≡ sheetText t row
+  unfolding sheetText
+  text-sheet-small-hole e = rw e
 
-tight-inside-radius-short : (radius : Float) → length (tightInsideRadiusText radius) ≤ 255
-unfolding tightInsideRadiusText
-tight-inside-radius-short radius = simp length-append (omega (arith, mm-short radius, mm-short minMillRadius))
+  pub text-hole-near-bend : row .kind ≡ holeNearBend → holeNearBendText (row .x) (row .y) ≡ sheetText t row
+  unfolding sheetText
+  text-hole-near-bend e = rw e
 
-deep-inside-corner-short : (ratio radius l : Float) → length (deepInsideCornerText ratio radius l) ≤ 255
-unfolding deepInsideCornerText
-deep-inside-corner-short ratio radius l = simp length-append (omega (arith, decimalText-length ratio 1, mm-short radius, mm-short l))
+  pub text-hole-near-edge : row .kind ≡ holeNearEdge → holeNearEdgeText (row .x) (row .y) ≡ sheetText t row
+  unfolding sheetText
+  text-hole-near-edge e = rw e
 
-sharp-inside-corner-short : (l fillet : Float) → length (sharpInsideCornerText l fillet) ≤ 255
-unfolding sharpInsideCornerText
-sharp-inside-corner-short l fillet = simp length-append (omega (arith, mm-short l, mm-short fillet))
+  pub sheet-none : (row .kind ≡ noMaterial → ⊥) → (row .kind ≡ material → ⊥) → (row .kind ≡ notOneThickness → ⊥) → (row .kind ≡ tightBend → ⊥) → (row .kind ≡ shortFlange → ⊥) → (row .kind ≡ sheetSmallHole → ⊥) → (row .kind ≡ holeNearBend → ⊥) → (row .kind ≡ holeNearEdge → ⊥) → [] ≡ sheetText t row
+  unfolding sheetText
+  sheet-none a b c d e f g h =
+      rw (ne-eqb _ _ a, ne-eqb _ _ b, ne-eqb _ _ c, ne-eqb _ _ d, ne-eqb _ _ e, ne-eqb _ _ f, ne-eqb _ _ g, ne-eqb _ _ h)
 
--- one text or another
-either : (b : Bool) (p q : List ℕ) → length p ≤ 255 → length q ≤ 255 → length (cond b p q) ≤ 255
-either true p q h k = h
-either false p q h k = k
+-- ---- printing
+module _ (t : Part) (row : Row) where
+  pub text-thinner-than-a-layer : row .kind ≡ thinnerThanALayer → thinnerThanALayerText (row .x) (t .job .print .layer) ≡ printingText t row
+  unfolding printingText
+  text-thinner-than-a-layer e = rw e
 
-pub text-short : (t : Part) (row : Row) → length (t .name) ≤ 40 → length (textOf t row) ≤ 255
-unfolding textOf
-text-short t row h =
-    either (eqb (row .kind) thinWall) _ _ (thin-wall-short t (row .x) h)
-    (either (eqb (row .kind) smallHole) _ _ (small-hole-short (row .x))
-    (either (eqb (row .kind) deepHoleMax) _ _ (deep-hole-max-short (row .x) (row .y) (row .z))
-    (either (eqb (row .kind) deepHoleStandard) _ _ (deep-hole-standard-short (row .x))
-    (either (eqb (row .kind) tightInsideRadius) _ _ (tight-inside-radius-short (row .x))
-    (either (eqb (row .kind) deepInsideCorner) _ _ (deep-inside-corner-short (row .x) (row .y) (row .z))
-    (either (eqb (row .kind) sharpInsideCorner) _ _ (sharp-inside-corner-short (row .x) (row .y)) (omega arith)))))))
+  pub text-few-layers : row .kind ≡ fewLayers → fewLayersText (row .x) (row .y) (t .job .print .layer) ≡ printingText t row
+  unfolding printingText
+  text-few-layers e = rw e
 
--- of an accepted file
-pub checked-short : (s : List ℕ) (row : Row) → Checked s → length (textOf (partOf s) row) ≤ 255
-checked-short s row h = text-short (partOf s) row (name-short s h)
+  pub text-thinner-than-the-nozzle : row .kind ≡ thinnerThanTheNozzle → thinnerThanTheNozzleText (row .x) (t .job .print .nozzle) ≡ printingText t row
+  unfolding printingText
+  text-thinner-than-the-nozzle e = rw e
+
+  pub text-print-thin-wall : row .kind ≡ printThinWall → printThinWallText (t .job .process) (row .x) (t .job .print .«min_wall») ≡ printingText t row
+  unfolding printingText
+  text-print-thin-wall e = rw e
+
+  pub text-print-small-hole : row .kind ≡ printSmallHole → printSmallHoleText (row .x) (t .job .print .«min_hole») ≡ printingText t row
+  unfolding printingText
+  text-print-small-hole e = rw e
+
+  pub text-overhang : row .kind ≡ overhang → overhangText (row .x) (t .job .print .overhang) ≡ printingText t row
+  unfolding printingText
+  text-overhang e = rw e
+
+  pub text-enclosed-hollow-sla : row .kind ≡ enclosedHollowSla → enclosedHollowSlaText (row .x) ≡ printingText t row
+  unfolding printingText
+  text-enclosed-hollow-sla e = rw e
+
+  pub text-enclosed-hollow-sls : row .kind ≡ enclosedHollowSls → enclosedHollowSlsText (row .x) ≡ printingText t row
+  unfolding printingText
+  text-enclosed-hollow-sls e = rw e
+
+  pub printing-none : (row .kind ≡ thinnerThanALayer → ⊥) → (row .kind ≡ fewLayers → ⊥) → (row .kind ≡ thinnerThanTheNozzle → ⊥) → (row .kind ≡ printThinWall → ⊥) → (row .kind ≡ printSmallHole → ⊥) → (row .kind ≡ overhang → ⊥) → (row .kind ≡ enclosedHollowSla → ⊥) → (row .kind ≡ enclosedHollowSls → ⊥) → [] ≡ printingText t row
+  unfolding printingText
+  printing-none a b c d e f g h =
+      rw (ne-eqb _ _ a, ne-eqb _ _ b, ne-eqb _ _ c, ne-eqb _ _ d, ne-eqb _ _ e, ne-eqb _ _ f, ne-eqb _ _ g, ne-eqb _ _ h)
+
+-- ---- by process
+module _ (t : Part) (row : Row) where
+  pub text-machining : row .kind ≤ sharpInsideCorner → machiningText t row ≡ textOf t row
+  unfolding textOf
+  text-machining h = rw (le-leb (row .kind) sharpInsideCorner h)
+
+  pub text-sheet : sharpInsideCorner < row .kind → row .kind ≤ holeNearEdge → sheetText t row ≡ textOf t row
+  unfolding textOf
+  text-sheet h k = rw (lt-leb (row .kind) sharpInsideCorner h, le-leb (row .kind) holeNearEdge k)
+
+  pub text-printing : sharpInsideCorner < row .kind → holeNearEdge < row .kind → printingText t row ≡ textOf t row
+  unfolding textOf
+  text-printing h k = rw (lt-leb (row .kind) sharpInsideCorner h, lt-leb (row .kind) holeNearEdge k)

@@ -1,4 +1,4 @@
--- What the rules and the messages of machining take from the job. Definitions only.
+-- What the rules and the messages take from the job. Definitions only.
 use mathlib.Core.Bool.{_&&_, cond}
 use mathlib.Core.List.{List}
 use Prim.Native.Nat.{ℕ}

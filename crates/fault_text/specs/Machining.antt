@@ -1,16 +1,20 @@
 -- The messages of machining and the faults that have them, as dfm.rs's `machining` pushes them. Definitions only.
+use mathlib.Core.Bool.{Bool, true, _&&_, cond}
 use mathlib.Core.List.{List, [], _∷_, _++_}
 use Prim.Native.Nat.{ℕ}
+use lib.Dec.{eqb}
 use lib.Ieee.{Float, binary64, ofBits}
 use Rattle.math.specs.Vector.{one}
 use Rattle.num_text.specs.Put.{bytes}
-use Rattle.num_text.specs.Decimal.{decimalText}
+use Rattle.num_text.specs.Decimal.{decimalText, accepted}
 use Rattle.file_part.specs.Part.{Part}
 use Rattle.solid_ids.specs.Ids.{idOf}
 use Rattle.fault_row.specs.declared.fault.Severity.{Severity}
 use Rattle.fault_row.specs.declared.fault.Severity.the-variants.{Warning, Note}
 use Rattle.fault_row.specs.declared.fault.Rule.the-variants.{DeepHole, DeepInsideCorner, SharpInsideCorner, SmallHole, ThinWall, TightInsideRadius}
+use Rattle.fault_row.specs.declared.row.Row.{Row}
 use Rattle.fault_row.specs.Fault.{Fault, fault}
+use Rattle.fault_text.specs.Kind.{thinWall, smallHole, deepHoleMax, deepHoleStandard, tightInsideRadius, deepInsideCorner, sharpInsideCorner}
 use Rattle.fault_text.specs.Job.{minWall, workName}
 use Rattle.fault_text.specs.Text.{mm}
 
@@ -72,3 +76,25 @@ deepInsideCornerFault t f ratio radius length = fault Warning DeepInsideCorner (
 
 unfoldable pub sharpInsideCornerFault : Part → ℕ → ℕ → Float → Float → Fault
 sharpInsideCornerFault t f g length fillet = fault Warning SharpInsideCorner (sharpInsideCornerText length fillet) (idOf t f ∷ idOf t g ∷ [])
+
+-- ---- of a row: x, y and z are what the kind's message prints
+unfoldable pub machiningText : Part → Row → List ℕ
+machiningText t row =
+    cond (eqb (row .kind) thinWall) (thinWallText t (row .x))
+    (cond (eqb (row .kind) smallHole) (smallHoleText (row .x))
+    (cond (eqb (row .kind) deepHoleMax) (deepHoleMaxText (row .x) (row .y) (row .z))
+    (cond (eqb (row .kind) deepHoleStandard) (deepHoleStandardText (row .x))
+    (cond (eqb (row .kind) tightInsideRadius) (tightInsideRadiusText (row .x))
+    (cond (eqb (row .kind) deepInsideCorner) (deepInsideCornerText (row .x) (row .y) (row .z))
+    (cond (eqb (row .kind) sharpInsideCorner) (sharpInsideCornerText (row .x) (row .y)) []))))))
+
+-- the decimal writer takes every number that it prints
+unfoldable pub machiningPrinted : Part → Row → Bool
+machiningPrinted t row =
+    cond (eqb (row .kind) thinWall) (accepted (row .x) 2 && accepted (minWall t) 2)
+    (cond (eqb (row .kind) smallHole) (accepted (row .x) 2 && accepted minDrill 2)
+    (cond (eqb (row .kind) deepHoleMax) (accepted (row .x) 1 && accepted (row .y) 2 && accepted (row .z) 2)
+    (cond (eqb (row .kind) deepHoleStandard) (accepted (row .x) 1)
+    (cond (eqb (row .kind) tightInsideRadius) (accepted (row .x) 2 && accepted minMillRadius 2)
+    (cond (eqb (row .kind) deepInsideCorner) (accepted (row .x) 1 && accepted (row .y) 2 && accepted (row .z) 2)
+    (cond (eqb (row .kind) sharpInsideCorner) (accepted (row .x) 2 && accepted (row .y) 2) true))))))

@@ -1,10 +1,11 @@
-// What the rules and the messages of machining take from the job.
+// What the rules and the messages take from the job.
 ghost use mathlib.Core.Path.{_≡_};
 ghost use Rattle.num_text.specs.Put.{Put};
 ghost use Rattle.file_part.specs.Layout.{vertexCount, polygonCount, entryAt};
 ghost use Rattle.file_part.specs.Part.{partOf};
 ghost use Rattle.solid_faces.specs.Faces.{Checked};
 ghost use Rattle.fault_text.specs.Job.{minWall, nameOr};
+use file_job::Job;
 use file_job::read_job;
 use num_text::put::put_bytes;
 
@@ -17,6 +18,14 @@ fn job_place(file: &[u8]) -> usize
     ensures { λ r. ⌜ r ≡ entryAt (vertexCount (now (file .entry))) (polygonCount (now (file .entry))) ⌝ }
 {
     file.len() - 144
+}
+
+// The job of an accepted file.
+pub fn job_of(file: &[u8]) -> Job
+    requires { ⌜ Checked (now file) ⌝ }
+    ensures { λ r. ⌜ r ≡ partOf (now (file .entry)) .job ⌝ }
+{
+    read_job(file, job_place(file))
 }
 
 // The thinnest wall: the material's, where it has one above 0.

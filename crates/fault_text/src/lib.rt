@@ -3,4 +3,6 @@ pub mod job;
 pub mod kind;
 pub mod machining;
 pub mod message;
+pub mod printing;
+pub mod sheet;
 pub mod text;

@@ -4,7 +4,7 @@ use mathlib.Core.Bool.{Bool, true, false, not, _&&_, cond}
 use mathlib.Core.List.{List}
 use Prim.Native.Nat.{ℕ, _+_, _*_, _-_, _≤_, _<_}
 use native.Mathlib.Omega.{arith}
-use lib.ListN.{length, set}
+use lib.ListN.{length, getD, set}
 use lib.Ieee.{Float, lt, nan}
 use borrow.Author.Tests.{not-true, not-false}
 use borrow.Rule.Slice.PartMut.{putMid}
@@ -17,14 +17,15 @@ use Rattle.file_part.specs.Layout.{vertexCount, polygonCount, entryAt}
 use Rattle.file_part.specs.Part.{Part, partOf, surfaceAt}
 use Rattle.file_part.proofs.PartLaws.{part-polygons, part-surface}
 use Rattle.solid_faces.specs.Faces.{facesOf, firstPolygon}
-use Rattle.solid_faces.specs.Kept.{FaceNumbers, KeptPlanes, KeptAreas}
+use Rattle.solid_faces.specs.Kept.{KeptPlanes, KeptAreas}
 use Rattle.solid_faces.proofs.BodyLaws.{checked-readable, checked-faces, EntryRoom, entry-room}
-use Rattle.solid_faces.proofs.FaceLaws.{first-polygon-begins}
+use Rattle.solid_faces.proofs.FaceLaws.{Begins, first-polygon-begins}
 use Rattle.solid_faces.proofs.CountLaws.{few-faces}
 use Rattle.scratch.specs.declared.regions.Regions.{Regions}
 use Rattle.scratch.specs.Regions.{Laid}
 use Rattle.scratch.specs.Standing.{Placed, Standing}
 use Rattle.scratch.proofs.StandingLaws.{placed-polygons, standing-kept}
+use Rattle.scratch.proofs.WordsLaws.{begins-at}
 use Rattle.round_hole.specs.Direction.{goesRound}
 use Rattle.round_frame.specs.declared.frame.Frame.{Frame}
 use Rattle.round_frame.specs.Frame.{measureOf}
@@ -61,8 +62,10 @@ module _ (s : List ℕ) (at : Regions) (words : List ℕ) (reals : List Float) (
       standing-kept s at (at .ranks) (at .free) words words′ reals reals′ h
       (outside-wide 0 _ _ (at .readings) (at .ranks) words words′ (omega (arith, h .placed .laid)) (omega arith) w) (past reals′ o)
 
-  pub faces-lent : FaceNumbers (partOf s) (partOf s .polygons) (part (at .faces) (at .readings) words)
-  faces-lent = h .the-words .faces .numbers
+  -- the polygon that begins face f, where q is read
+  pub first-begins : (f q : ℕ) → f < facesOf (partOf s) → q ≡ getD words (at .firsts + f) 0 → Begins (partOf s) (partOf s .polygons) f q
+  first-begins f q l e =
+      begins-at (partOf s) at words f q (h .placed .laid) (h .the-words) (placed-polygons s at (h .placed)) l (checked-faces s (h .placed .checked)) e
 
   pub planes-lent : (reals′ : List Float) → Outside nan (at .rounds) (at .free) reals reals′ → KeptPlanes (partOf s) (partOf s .polygons) (part 0 (at .areas) reals′)
   planes-lent reals′ o =

@@ -8,8 +8,8 @@ ghost use Rattle.list_laws.specs.Region.{Outside};
 ghost use Rattle.math.specs.Vector as vector;
 ghost use Rattle.file_part.specs.Part.{partOf};
 ghost use Rattle.file_ok.specs.Verdict.{Readable};
-ghost use Rattle.solid_faces.specs.Faces.{facesOf};
-ghost use Rattle.solid_faces.specs.Kept.{FaceNumbers, KeptPlanes, KeptAreas};
+ghost use Rattle.solid_faces.specs.Faces.{isNew, faceNumber, facesOf};
+ghost use Rattle.solid_faces.specs.Kept.{Chain, KeptPlanes, KeptAreas};
 ghost use Rattle.scratch.specs.Standing.{Standing};
 ghost use Rattle.round_frame.specs.Frame.{measureOf, Central};
 ghost use Rattle.round_frame.specs.Polygons.{extentTo, votesTo};
@@ -43,29 +43,31 @@ pub struct Round {
     pub centre: Vec3,
 }
 
-// Keeps axis, length and centre of face f.
-fn put_extent(file: &[u8], faces: &[u32], out: &mut [f64], f: usize, frame: Frame)
-    requires { ⌜ Readable (now file) ⌝ ∗ ⌜ FaceNumbers (partOf (now file)) (partOf (now file) .polygons) (now faces) ⌝ ∗ ⌜ 7 * f + 7 ≤ length (now out) ⌝ }
+// Keeps axis, length and centre of face f, which begins with polygon `first`.
+fn put_extent(file: &[u8], chain: &[u32], out: &mut [f64], f: usize, first: usize, frame: Frame)
+    requires { ⌜ Readable (now file) ⌝ ∗ ⌜ Chain (partOf (now file)) (now chain) ⌝ ∗ ⌜ 7 * f + 7 ≤ length (now out) ⌝ }
+    requires { ⌜ first < partOf (now file) .polygons ⌝ ∗ ⌜ isNew (partOf (now file)) first ≡ true ⌝ ∗ ⌜ faceNumber (partOf (now file)) first ≡ f ⌝ }
     ensures { λ r. ⌜ now (out .exit) ≡ putMeasure (now (out .entry)) f (measureOf frame (extentTo (partOf (now (file .entry))) f frame (partOf (now (file .entry)) .polygons))) ⌝ }
 {
-    let e = face_extent(file, faces, f, frame);
+    let e = face_extent(file, chain, first, frame);
     put_measure(out, f, Measure::new(frame, e));
 }
 
-// Whether the material is outside the cylinder.
+// Whether the material is outside the cylinder, of the face that begins with polygon `first`.
 fn is_concave(
     file: &[u8],
-    faces: &[u32],
+    chain: &[u32],
     planes: &[f64],
     areas: &[f64],
-    f: usize,
+    first: usize,
     frame: Frame,
 ) -> bool
-    requires { ⌜ Readable (now file) ⌝ ∗ ⌜ FaceNumbers (partOf (now file)) (partOf (now file) .polygons) (now faces) ⌝ }
+    requires { ⌜ Readable (now file) ⌝ ∗ ⌜ Chain (partOf (now file)) (now chain) ⌝ }
+    requires { ⌜ first < partOf (now file) .polygons ⌝ ∗ ⌜ isNew (partOf (now file)) first ≡ true ⌝ }
     requires { ⌜ KeptPlanes (partOf (now file)) (partOf (now file) .polygons) (now planes) ⌝ ∗ ⌜ KeptAreas (partOf (now file)) (partOf (now file) .polygons) (now areas) ⌝ }
-    ensures { λ r. ⌜ r ≡ lt (votesTo (partOf (now (file .entry))) f frame (partOf (now (file .entry)) .polygons)) vector.zero ⌝ }
+    ensures { λ r. ⌜ r ≡ lt (votesTo (partOf (now (file .entry))) (faceNumber (partOf (now (file .entry))) first) frame (partOf (now (file .entry)) .polygons)) vector.zero ⌝ }
 {
-    face_votes(file, faces, planes, areas, f, frame) < 0.0
+    face_votes(file, chain, planes, areas, first, frame) < 0.0
 }
 
 // Keeps what is to be kept of a cylinder, face f. What it is: 1 convex, 2 concave and no hole, 3 a hole.
@@ -80,15 +82,18 @@ fn put_cylinder(
     requires { ⌜ Standing (now file) at (now words) (now reals) ⌝ ∗ ⌜ f < facesOf (partOf (now file)) ⌝ ∗ ⌜ Central frame ⌝ }
     ensures { λ r. ⌜ CylinderPut (partOf (now (file .entry))) at f frame (now (reals .entry)) (now (reals .exit)) r ⌝ }
 {
-    let faces = at.faces;
-    let faces_end = at.readings;
+    let firsts = at.firsts;
+    let first = wide(words[firsts + f]);
+    let chain = at.chain;
+    let chain_end = at.faces;
     let rounds = at.rounds;
     let directions = at.directions;
     put_extent(
         file,
-        &words[faces..faces_end],
+        &words[chain..chain_end],
         &mut reals[rounds..directions],
         f,
+        first,
         frame,
     );
     let start: usize = 0;
@@ -96,10 +101,10 @@ fn put_cylinder(
     let totals = at.totals;
     if !is_concave(
         file,
-        &words[faces..faces_end],
+        &words[chain..chain_end],
         &reals[start..areas],
         &reals[areas..totals],
-        f,
+        first,
         frame,
     ) {
         return 1;
@@ -107,9 +112,9 @@ fn put_cylinder(
     let end = at.free;
     if is_bore(
         file,
-        &words[faces..faces_end],
+        &words[chain..chain_end],
         &mut reals[directions..end],
-        f,
+        first,
         frame,
     ) {
         return 3;

@@ -1,10 +1,11 @@
 -- The directions of a face in the cells, one vertex and one polygon more each.
-use mathlib.Core.Path.{_≡_, refl, sym, ap, _∙_, subst, subst₂}
+use mathlib.Core.Path.{_≡_, refl, sym, ap, _∙_, subst}
+use mathlib.Core.Bool.{true}
 use mathlib.Core.List.{List, [], _∷_, _++_, append-nil, append-assoc}
-use Prim.Native.Nat.{ℕ, _+_, _*_, _≤_, _<_}
+use Prim.Native.Nat.{ℕ, zero, suc, _+_, _-_, _*_, _≤_, _<_}
 use native.Mathlib.Omega.{arith}
 use native.Mathlib.Numerals.{add-one}
-use native.Mathlib.Nat.{le-antisymm}
+use native.Mathlib.Nat.{le-antisymm, add-zero}
 use lib.ListN.{length, getD, set, length-set}
 use lib.Seq.{getD-set-same, getD-set-other}
 use lib.Ieee.{Float, nan}
@@ -14,13 +15,15 @@ use Rattle.math.specs.Vector.{minus, dotOf}
 use Rattle.file_field.specs.Field.{vecAt}
 use Rattle.file_part.specs.Layout.{vertexCount, polygonCount, entryAt}
 use Rattle.file_part.specs.Part.{firstAt, countAt, partOf}
+use Rattle.file_part.proofs.PartLaws.{part-polygons}
 use Rattle.file_ok.specs.Rules.{runStart}
 use Rattle.file_ok.specs.Verdict.{Readable}
 use Rattle.file_ok.proofs.PolygonLaws.{start-more}
 use Rattle.file_ok.proofs.ReadableLaws.{readable-vertex, readable-whole}
 use Rattle.solid_polygon.specs.Polygon.{cornerAt}
-use Rattle.solid_faces.specs.Faces.{polygonCorner}
-use Rattle.solid_faces.specs.Kept.{FaceNumbers}
+use Rattle.solid_faces.specs.Faces.{isNew, faceNumber, polygonCorner}
+use Rattle.solid_faces.specs.Kept.{Chain}
+use Rattle.solid_faces.proofs.ChainLaws.{OnFace, on-rises}
 use Rattle.round_hole.specs.declared.direction.Direction.{Direction}
 use Rattle.round_hole.specs.Direction.{directionOf}
 use Rattle.round_hole.specs.Cells.{Packable, packOf, directionsIn}
@@ -30,7 +33,7 @@ use Rattle.round_frame.specs.Frame.{vertexDirections, runDirections}
 use Rattle.round_frame.specs.Polygons.{directionsTo}
 use Rattle.round_frame.specs.Bore.{DirectionsPut}
 use Rattle.round_frame.proofs.RunLaws.{run-starts, run-ends, run-inside, run-directions}
-use Rattle.round_frame.proofs.ChoiceLaws.{to-all, directions-none, directions-this, directions-other}
+use Rattle.round_frame.proofs.ChoiceLaws.{to-all, directions-none, directions-next}
 
 -- ---- one direction more, in the next cell
 one-more : (cells : List Float) (m : ℕ) (d : Direction) (x : Float) → m < length cells → Packable d → x ≡ packOf d → directionsIn (m + 1) (set cells m x) ≡ directionsIn m cells ++ (d ∷ [])
@@ -98,44 +101,46 @@ module _ (s : List ℕ) (v q at first count : ℕ) (readable : Readable s) (ev :
   pub run-whole : first + count ≤ vertexCount s
   run-whole = omega (arith, run-inside s v q at first count readable ev low place ef ec)
 
--- the next run begins no earlier
+-- a later run begins no earlier
 start-grows : (s : List ℕ) (v q : ℕ) → runStart s v q ≤ runStart s v (q + 1)
 start-grows s v q = omega (arith, start-more s v q (runStart s v q) (countAt s (entryAt v q)) refl refl)
+
+starts-grow : (s : List ℕ) (v q d : ℕ) → runStart s v q ≤ runStart s v (q + d)
+starts-grow s v q zero = omega (arith, ap (runStart s v) (add-zero q))
+starts-grow s v q (suc d) =
+    let next : q + suc d ≡ (q + d) + 1 = omega arith in
+    omega (arith, starts-grow s v q d, start-grows s v (q + d), ap (runStart s v) next)
 
 module _ (s : List ℕ) (f v : ℕ) (a : Frame) (before : List Float) where
   abbrev pub Passed : List Float → ℕ → ℕ → Type 0
   Passed cells n q = DirectionsPut before cells (runStart s v q) n (directionsTo (partOf s) f a q)
 
-  pub polygons-none : DirectionsPut before before (runStart s v 0) 0 (directionsTo (partOf s) f a 0)
-  polygons-none = record { held = directions-none (partOf s) f a before; few = omega arith; long = refl }
-
-  module _ (q n : ℕ) (faces : List ℕ) (cells : List Float) (known : FaceNumbers (partOf s) (partOf s .polygons) faces) (low : q < partOf s .polygons)
-      (passed : Passed cells n q) (cells′ : List Float) (n′ : ℕ) where
-    pub polygon-this : (after : List Float) (r : ℕ) → getD faces q 0 ≡ f → cells′ ≡ after → n′ ≡ r →
-        DirectionsPut cells after (runStart s v (q + 1)) r (directionsIn n cells ++ runDirections a (polygonCorner (partOf s) q) (partOf s .polygon q .count)) →
-        Passed cells′ n′ (q + 1)
-    polygon-this after r h ec en i =
-        subst₂ (λ (x : List Float) (m : ℕ). Passed x m (q + 1)) (sym ec) (sym en) record {
-          held = directions-this (partOf s) f q faces known low a (directionsIn n cells) (directionsIn r after) h (passed .held) (i .held);
-          few = i .few;
-          long = i .long ∙ passed .long;
-        }
-
-    pub polygon-other : (getD faces q 0 ≡ f → ⊥) → cells′ ≡ cells → n′ ≡ n → Passed cells′ n′ (q + 1)
-    polygon-other h ec en =
-        subst₂ (λ (x : List Float) (m : ℕ). Passed x m (q + 1)) (sym ec) (sym en) record {
-          held = directions-other (partOf s) f q faces known low a (directionsIn n cells) h (passed .held);
-          few = omega (arith, passed .few, start-grows s v q);
-          long = passed .long;
-        }
+  pub polygon-next : (q n : ℕ) (l : List ℕ) (cells after : List Float) (r : ℕ) → Chain (partOf s) l → OnFace (partOf s) f q → q < partOf s .polygons →
+      Passed cells n q →
+      DirectionsPut cells after (runStart s v (q + 1)) r (directionsIn n cells ++ runDirections a (polygonCorner (partOf s) q) (partOf s .polygon q .count)) →
+      Passed after r (getD l q 0)
+  polygon-next q n l cells after r chain on low passed i =
+      let rises : q < getD l q 0 = on-rises (partOf s) f q l chain on low in
+      let far : getD l q 0 ≡ (q + 1) + (getD l q 0 - (q + 1)) = omega (arith, rises) in
+      record {
+        held = directions-next (partOf s) f q l chain on low a (directionsIn n cells) (directionsIn r after) (passed .held) (i .held);
+        few = omega (arith, i .few, starts-grow s v (q + 1) (getD l q 0 - (q + 1)), ap (runStart s v) far);
+        long = i .long ∙ passed .long;
+      }
 
   -- all runs together have V vertices
-  pub polygons-all : (p q n : ℕ) (cells : List Float) → Readable s → v ≡ vertexCount s → p ≡ polygonCount s → q ≤ p → p ≤ q → Passed cells n q →
-      DirectionsPut before cells (vertexCount s) n (directionsTo (partOf s) f a (partOf s .polygons))
+  pub polygons-all : (p q n : ℕ) (cells : List Float) → Readable s → v ≡ vertexCount s → p ≡ polygonCount s → q ≤ partOf s .polygons → p ≤ q →
+      Passed cells n q → DirectionsPut before cells (vertexCount s) n (directionsTo (partOf s) f a (partOf s .polygons))
   polygons-all p q n cells h ev ep l g passed =
-      let at : runStart s v q ≡ runStart s (vertexCount s) (polygonCount s) = ap (λ (k : ℕ). runStart s k q) ev ∙ ap (runStart s (vertexCount s)) (le-antisymm l g ∙ ep) in
+      let same : q ≡ polygonCount s = omega (arith, l, g, ep, part-polygons s) in
+      let at : runStart s v q ≡ runStart s (vertexCount s) (polygonCount s) = ap (λ (k : ℕ). runStart s k q) ev ∙ ap (runStart s (vertexCount s)) same in
       record {
         held = to-all s (directionsTo (partOf s) f a) q p (directionsIn n cells) ep l g (passed .held);
         few = omega (arith, at, readable-whole s h, passed .few);
         long = passed .long;
       }
+
+pub polygons-none : (s : List ℕ) (v first : ℕ) (a : Frame) (before : List Float) → isNew (partOf s) first ≡ true →
+    Passed s (faceNumber (partOf s) first) v a before before 0 first
+polygons-none s v first a before new =
+    record { held = directions-none (partOf s) a first new before; few = omega arith; long = refl }

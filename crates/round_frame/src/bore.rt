@@ -1,5 +1,6 @@
 // Whether the vertices of a face go all the way round its axis. Their directions are put into cells, one after another.
 ghost use mathlib.Core.Path.{_≡_};
+ghost use mathlib.Core.Bool.{true};
 ghost use mathlib.Core.List.{_++_};
 ghost use Prim.Native.Nat.{_+_, _≤_, _<_};
 ghost use lib.ListN.{length};
@@ -9,8 +10,8 @@ ghost use Rattle.file_part.specs.Part.{partOf};
 ghost use Rattle.file_ok.specs.Rules.{runStart};
 ghost use Rattle.file_ok.specs.Verdict.{Readable};
 ghost use Rattle.solid_polygon.specs.Polygon.{cornerAt};
-ghost use Rattle.solid_faces.specs.Faces.{polygonCorner};
-ghost use Rattle.solid_faces.specs.Kept.{FaceNumbers};
+ghost use Rattle.solid_faces.specs.Faces.{isNew, faceNumber, polygonCorner};
+ghost use Rattle.solid_faces.specs.Kept.{Chain};
 ghost use Rattle.round_hole.specs.Direction.{goesRound};
 ghost use Rattle.round_hole.specs.Cells.{directionsIn};
 ghost use Rattle.round_frame.specs.Frame.{vertexDirections, runDirections, Central};
@@ -83,32 +84,38 @@ fn polygon_directions(
     )
 }
 
-// Those of all polygons of face f.
-fn face_directions(file: &[u8], faces: &[u32], cells: &mut [f64], f: usize, frame: Frame) -> usize
-    requires { ⌜ Readable (now file) ⌝ ∗ ⌜ FaceNumbers (partOf (now file)) (partOf (now file) .polygons) (now faces) ⌝ }
+// Those of all polygons of the face that begins with polygon `first`.
+fn face_directions(
+    file: &[u8],
+    chain: &[u32],
+    cells: &mut [f64],
+    first: usize,
+    frame: Frame,
+) -> usize
+    requires { ⌜ Readable (now file) ⌝ ∗ ⌜ Chain (partOf (now file)) (now chain) ⌝ }
+    requires { ⌜ first < partOf (now file) .polygons ⌝ ∗ ⌜ isNew (partOf (now file)) first ≡ true ⌝ }
     requires { ⌜ vertexCount (now file) ≤ length (now cells) ⌝ ∗ ⌜ Central frame ⌝ }
-    ensures { λ r. ⌜ DirectionsPut (now (cells .entry)) (now (cells .exit)) (vertexCount (now (file .entry))) r (directionsTo (partOf (now (file .entry))) f frame (partOf (now (file .entry)) .polygons)) ⌝ }
+    ensures { λ r. ⌜ DirectionsPut (now (cells .entry)) (now (cells .exit)) (vertexCount (now (file .entry))) r (directionsTo (partOf (now (file .entry))) (faceNumber (partOf (now (file .entry))) first) frame (partOf (now (file .entry)) .polygons)) ⌝ }
 {
     let p = polygon_count(file);
     let v = vertex_count(file);
     let mut n: usize = 0;
-    let mut q: usize = 0;
+    let mut q = first;
     while q < p {
-        if faces[q] as usize == f {
-            n = polygon_directions(file, v, q, frame, cells, n);
-        }
-        q += 1;
+        n = polygon_directions(file, v, q, frame, cells, n);
+        q = chain[q] as usize;
     }
     n
 }
 
 // Whether they go round.
-pub fn is_bore(file: &[u8], faces: &[u32], cells: &mut [f64], f: usize, frame: Frame) -> bool
-    requires { ⌜ Readable (now file) ⌝ ∗ ⌜ FaceNumbers (partOf (now file)) (partOf (now file) .polygons) (now faces) ⌝ }
+pub fn is_bore(file: &[u8], chain: &[u32], cells: &mut [f64], first: usize, frame: Frame) -> bool
+    requires { ⌜ Readable (now file) ⌝ ∗ ⌜ Chain (partOf (now file)) (now chain) ⌝ }
+    requires { ⌜ first < partOf (now file) .polygons ⌝ ∗ ⌜ isNew (partOf (now file)) first ≡ true ⌝ }
     requires { ⌜ vertexCount (now file) ≤ length (now cells) ⌝ ∗ ⌜ Central frame ⌝ }
-    ensures { λ r. ⌜ r ≡ goesRound (directionsTo (partOf (now (file .entry))) f frame (partOf (now (file .entry)) .polygons)) ⌝ }
+    ensures { λ r. ⌜ r ≡ goesRound (directionsTo (partOf (now (file .entry))) (faceNumber (partOf (now (file .entry))) first) frame (partOf (now (file .entry)) .polygons)) ⌝ }
     ensures { λ r. ⌜ length (now (cells .exit)) ≡ length (now (cells .entry)) ⌝ }
 {
-    let n = face_directions(file, faces, cells, f, frame);
+    let n = face_directions(file, chain, cells, first, frame);
     goes_round(&cells[..], n)
 }

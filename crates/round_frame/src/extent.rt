@@ -1,13 +1,14 @@
 // How far a face reaches along its axis.
 ghost use mathlib.Core.Path.{_≡_};
+ghost use mathlib.Core.Bool.{true};
 ghost use Prim.Native.Nat.{_+_, _*_, _≤_, _<_};
 ghost use lib.ListN.{length};
 ghost use Rattle.file_part.specs.Layout.{vertexCount};
 ghost use Rattle.file_part.specs.Part.{partOf};
 ghost use Rattle.file_ok.specs.Verdict.{Readable};
 ghost use Rattle.solid_polygon.specs.Polygon.{cornerAt};
-ghost use Rattle.solid_faces.specs.Faces.{polygonCorner};
-ghost use Rattle.solid_faces.specs.Kept.{FaceNumbers};
+ghost use Rattle.solid_faces.specs.Faces.{isNew, faceNumber, polygonCorner};
+ghost use Rattle.solid_faces.specs.Kept.{Chain};
 ghost use Rattle.round_frame.specs.Frame.{reach, runExtent};
 ghost use Rattle.round_frame.specs.Polygons.{extentTo};
 use crate::frame::Frame;
@@ -61,10 +62,11 @@ fn polygon_extent(file: &[u8], v: usize, q: usize, frame: Frame, e: Extent) -> E
     run_extent(file, first_vertex(file, at), run_length(file, at), frame, e)
 }
 
-// Over all polygons of face f.
-pub fn face_extent(file: &[u8], faces: &[u32], f: usize, frame: Frame) -> Extent
-    requires { ⌜ Readable (now file) ⌝ ∗ ⌜ FaceNumbers (partOf (now file)) (partOf (now file) .polygons) (now faces) ⌝ }
-    ensures { λ r. ⌜ r ≡ extentTo (partOf (now (file .entry))) f frame (partOf (now (file .entry)) .polygons) ⌝ }
+// Over all polygons of the face that begins with polygon `first`.
+pub fn face_extent(file: &[u8], chain: &[u32], first: usize, frame: Frame) -> Extent
+    requires { ⌜ Readable (now file) ⌝ ∗ ⌜ Chain (partOf (now file)) (now chain) ⌝ }
+    requires { ⌜ first < partOf (now file) .polygons ⌝ ∗ ⌜ isNew (partOf (now file)) first ≡ true ⌝ }
+    ensures { λ r. ⌜ r ≡ extentTo (partOf (now (file .entry))) (faceNumber (partOf (now (file .entry))) first) frame (partOf (now (file .entry)) .polygons) ⌝ }
 {
     let p = polygon_count(file);
     let v = vertex_count(file);
@@ -72,12 +74,10 @@ pub fn face_extent(file: &[u8], faces: &[u32], f: usize, frame: Frame) -> Extent
         lo: 1.0 / 0.0,
         hi: -1.0 / 0.0,
     };
-    let mut q: usize = 0;
+    let mut q = first;
     while q < p {
-        if faces[q] as usize == f {
-            e = polygon_extent(file, v, q, frame, e);
-        }
-        q += 1;
+        e = polygon_extent(file, v, q, frame, e);
+        q = chain[q] as usize;
     }
     e
 }

@@ -1,11 +1,13 @@
 // Whether the material of a round lies outside its cylinder.
 ghost use mathlib.Core.Path.{_≡_};
+ghost use mathlib.Core.Bool.{true};
 ghost use Prim.Native.Nat.{_+_, _*_, _≤_, _<_};
 ghost use lib.ListN.{length};
 ghost use Rattle.file_part.specs.Layout.{vertexCount};
 ghost use Rattle.file_part.specs.Part.{partOf};
 ghost use Rattle.file_ok.specs.Verdict.{Readable};
-ghost use Rattle.solid_faces.specs.Kept.{FaceNumbers, planeAt, KeptPlanes, KeptAreas};
+ghost use Rattle.solid_faces.specs.Faces.{isNew, faceNumber};
+ghost use Rattle.solid_faces.specs.Kept.{Chain, planeAt, KeptPlanes, KeptAreas};
 ghost use Rattle.round_frame.specs.Polygons.{polygonVote, votesTo};
 use crate::frame::Frame;
 use file_part::read::entry_at;
@@ -40,28 +42,27 @@ fn polygon_vote(file: &[u8], planes: &[f64], areas: &[f64], v: usize, q: usize, 
     frame.vote(normal_at(planes, q), centroid, areas[q])
 }
 
-// The votes of all polygons of face f.
+// The votes of all polygons of the face that begins with polygon `first`.
 pub fn face_votes(
     file: &[u8],
-    faces: &[u32],
+    chain: &[u32],
     planes: &[f64],
     areas: &[f64],
-    f: usize,
+    first: usize,
     frame: Frame,
 ) -> f64
-    requires { ⌜ Readable (now file) ⌝ ∗ ⌜ FaceNumbers (partOf (now file)) (partOf (now file) .polygons) (now faces) ⌝ }
+    requires { ⌜ Readable (now file) ⌝ ∗ ⌜ Chain (partOf (now file)) (now chain) ⌝ }
+    requires { ⌜ first < partOf (now file) .polygons ⌝ ∗ ⌜ isNew (partOf (now file)) first ≡ true ⌝ }
     requires { ⌜ KeptPlanes (partOf (now file)) (partOf (now file) .polygons) (now planes) ⌝ ∗ ⌜ KeptAreas (partOf (now file)) (partOf (now file) .polygons) (now areas) ⌝ }
-    ensures { λ r. ⌜ r ≡ votesTo (partOf (now (file .entry))) f frame (partOf (now (file .entry)) .polygons) ⌝ }
+    ensures { λ r. ⌜ r ≡ votesTo (partOf (now (file .entry))) (faceNumber (partOf (now (file .entry))) first) frame (partOf (now (file .entry)) .polygons) ⌝ }
 {
     let p = polygon_count(file);
     let v = vertex_count(file);
     let mut votes = 0.0;
-    let mut q: usize = 0;
+    let mut q = first;
     while q < p {
-        if faces[q] as usize == f {
-            votes += polygon_vote(file, planes, areas, v, q, frame);
-        }
-        q += 1;
+        votes += polygon_vote(file, planes, areas, v, q, frame);
+        q = chain[q] as usize;
     }
     votes
 }

@@ -164,7 +164,7 @@ module _ (t : Part) (at : Regions) (s m : ℕ) (words : List ℕ) (reals : List 
         }
 
 -- ---- the body and the ranks are as they were
-module _ (s : List ℕ) (at : Regions) (words words′ : List ℕ) (reals reals′ : List Float) (e : ℕ) (h : Standing s at words reals) (high : e ≤ at .faces)
+module _ (s : List ℕ) (at : Regions) (words words′ : List ℕ) (reals reals′ : List Float) (e : ℕ) (h : Standing s at words reals) (high : e ≤ at .chain)
     (w : Outside 0 (at .items) e words words′) (r : Outside nan (at .directions) (at .free) reals reals′) where
   pub still-standing : Standing s at words′ reals′
   still-standing =

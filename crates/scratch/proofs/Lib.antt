@@ -7,6 +7,7 @@
 --   standing-still                      and after those that `BodyKept` allows: body-same, body-then, body-past, body-sorted
 -- WordsLaws
 --   face-at, first-at                   the face of a polygon, the first polygon of a face
+--   begins-at, link-at                  that polygon begins the face; the next polygon of a polygon's face
 -- RefusalLaws
 --   put-checked, put-room               what a refusal of 0 says
 pub mod RegionLaws

@@ -1,7 +1,7 @@
 -- The body stands in the scratch, and still does after changes past its regions; what a stage above reads of it.
 use mathlib.Core.Path.{_≡_, refl, sym, _∙_, subst}
 use mathlib.Core.List.{List}
-use Prim.Native.Nat.{ℕ, _≤_, _<_}
+use Prim.Native.Nat.{ℕ, _≤_}
 use native.Mathlib.Omega.{arith}
 use lib.Ieee.{Float, nan}
 use Rattle.list_laws.specs.Region.{part, Outside}
@@ -11,7 +11,7 @@ use Rattle.file_part.proofs.PartLaws.{part-vertices, part-polygons}
 use Rattle.solid_segments.specs.Sides.{SharedSegments}
 use Rattle.solid_bodies.proofs.BodyLaws.{labels-as}
 use Rattle.solid_volumes.specs.Volume.{Volumes}
-use Rattle.solid_faces.specs.Kept.{Faces, KeptPlanes, KeptAreas, FaceAreas}
+use Rattle.solid_faces.specs.Kept.{Faces, Chain, KeptPlanes, KeptAreas, FaceAreas}
 use Rattle.scratch.specs.declared.regions.Regions.{Regions}
 use Rattle.scratch.specs.Regions.{Laid}
 use Rattle.scratch.specs.Standing.{Placed, Words, Reals, Standing, BodyKept}
@@ -26,21 +26,36 @@ placed-vertices s at h = h .vertices ∙ sym (part-vertices s)
 -- ---- which changes of the words keep the body
 module _ (at : Regions) (laid : Laid at) where
   pub body-same : (l : List ℕ) → BodyKept at l l
-  body-same l = record { front = λ i h. refl; faces = λ i h k. refl; long = refl }
+  body-same l = record { front = λ i h. refl; chain = λ i h k. refl; faces = λ i h k. refl; long = refl }
 
   pub body-then : (l m n : List ℕ) → BodyKept at l m → BodyKept at m n → BodyKept at l n
   body-then l m n a b =
-      record { front = λ i h. b .front i h ∙ a .front i h; faces = λ i h k. b .faces i h k ∙ a .faces i h k; long = b .long ∙ a .long }
+      record {
+        front = λ i h. b .front i h ∙ a .front i h;
+        chain = λ i h k. b .chain i h k ∙ a .chain i h k;
+        faces = λ i h k. b .faces i h k ∙ a .faces i h k;
+        long = b .long ∙ a .long;
+      }
 
   -- those past it
   pub body-past : (e : ℕ) (l m : List ℕ) → Outside 0 (at .readings) e l m → BodyKept at l m
   body-past e l m h =
-      record { front = λ i k. h .below i (omega (arith, k, laid)); faces = λ i k j. h .below i j; long = h .long }
+      record {
+        front = λ i k. h .below i (omega (arith, k, laid));
+        chain = λ i k j. h .below i (omega (arith, j, laid));
+        faces = λ i k j. h .below i j;
+        long = h .long;
+      }
 
   -- those of the sides in order
-  pub body-sorted : (a e : ℕ) (l m : List ℕ) → at .items ≤ a → e ≤ at .faces → Outside 0 a e l m → BodyKept at l m
+  pub body-sorted : (a e : ℕ) (l m : List ℕ) → at .items ≤ a → e ≤ at .chain → Outside 0 a e l m → BodyKept at l m
   body-sorted a e l m low high h =
-      record { front = λ i k. h .below i (omega (arith, k, low)); faces = λ i k j. h .above i (omega (arith, k, high)); long = h .long }
+      record {
+        front = λ i k. h .below i (omega (arith, k, low));
+        chain = λ i k j. h .above i (omega (arith, k, high));
+        faces = λ i k j. h .above i (omega (arith, k, high, laid));
+        long = h .long;
+      }
 
 -- ---- the body still stands after them
 module _ (s : List ℕ) (at : Regions) (b : ℕ) (words words′ : List ℕ) (reals reals′ : List Float) (h : Standing s at words reals)
@@ -53,6 +68,8 @@ module _ (s : List ℕ) (at : Regions) (b : ℕ) (words words′ : List ℕ) (re
             (omega (arith, h .words-room, laid, placed-polygons s at (h .placed), w .long));
         sides = subst (SharedSegments (partOf s))
             (sym (part-kept 0 words words′ (at .sides) (at .items) (w .long) (omega (arith, h .words-room, laid)) (λ i k l. w .front i l))) (h .the-words .sides);
+        chain = subst (Chain (partOf s))
+            (sym (part-kept 0 words words′ (at .chain) (at .faces) (w .long) (omega (arith, h .words-room, laid)) (w .chain))) (h .the-words .chain);
         faces = subst (Faces (partOf s))
             (sym (part-kept 0 words words′ (at .faces) (at .readings) (w .long) (omega (arith, h .words-room, laid)) (w .faces))) (h .the-words .faces);
       }

@@ -1,25 +1,32 @@
--- The u32 scratch after its three regions have been put: the bodies with their work, the sides over that work, the faces after them.
+-- The u32 scratch after its regions have been put: the bodies with their work, the sides over that work, the faces after them, and then the
+-- chain over the rest of that work.
 use mathlib.Core.Path.{_≡_, sym, ap, _∙_, subst}
 use mathlib.Core.List.{List}
-use Prim.Native.Nat.{ℕ, _+_, _-_, _≤_, _<_}
+use mathlib.Core.Logic.{_⊎_, inl, inr}
+use Prim.Native.Nat.{ℕ, _+_, _-_, _*_, _≤_, _<_}
 use native.Mathlib.Omega.{arith}
 use native.Mathlib.Nat.{sub-zero, zero-add}
-use lib.ListN.{length, getD, take, drop}
-use lib.Seq.{take-take}
+use lib.ListN.{length, getD, set, take, drop, replicate, length-set, length-replicate}
+use lib.Seq.{take-take, getD-set-same, getD-set-other}
 use borrow.Rule.Slice.PartMut.{putMid}
+use Rattle.num_float.proofs.Tests.{lt-or-ge}
 use Rattle.list_laws.specs.Region.{part, Outside}
 use Rattle.list_laws.proofs.Regions.{part-length, put-length, part-put, part-before, part-place, put-before, put-inside}
-use Rattle.list_laws.proofs.Outside.{outside-then, outside-wide, outside-put}
+use Rattle.list_laws.proofs.Outside.{outside-then, outside-wide, outside-put, outside-part, outside-after}
+use Rattle.list_laws.proofs.Fill.{filled-at}
 use Rattle.file_part.specs.Part.{Part}
 use Rattle.solid_segments.specs.Sides.{SharedSegments}
 use Rattle.solid_segments.proofs.SharedLaws.{shared-front}
 use Rattle.solid_bodies.specs.Body.{Labels, Bodies}
 use Rattle.solid_bodies.proofs.BodyLaws.{labels-as}
-use Rattle.solid_faces.specs.Faces.{facesOf, faceNumber, firstPolygon}
-use Rattle.solid_faces.specs.Kept.{Faces}
+use Rattle.solid_faces.specs.Faces.{facesOf, faceNumber, firstPolygon, nextOf, nextPolygon}
+use Rattle.solid_faces.specs.Kept.{Faces, Chain}
+use Rattle.solid_faces.proofs.FaceLaws.{Begins, first-polygon-begins}
+use Rattle.solid_faces.proofs.ChainLaws.{next-here, next-other, next-end}
 use Rattle.scratch.specs.declared.regions.Regions.{Regions}
 use Rattle.scratch.specs.Regions.{Laid}
 use Rattle.scratch.specs.Standing.{Words}
+use Rattle.scratch.specs.Work.{WordsBefore}
 
 module _ (at : Regions) (laid : Laid at) (s x y z : List ℕ) (room : at .words ≤ length s)
     (lx : length x ≡ at .work - 0) (ly : length y ≡ at .faces - at .sides) (lz : length z ≡ at .readings - at .faces) where
@@ -61,7 +68,7 @@ module _ (at : Regions) (laid : Laid at) (s x y z : List ℕ) (room : at .words 
   faces-kept : part (at .faces) (at .readings) third ≡ z
   faces-kept = part-put (at .faces) (at .readings) second z (omega (arith, room, laid, second-length)) lz
 
-  all-words : (t : Part) → at .polygons ≡ t .polygons → at .vertices ≡ t .vertices → Bodies t x → SharedSegments t y → Faces t z → Words t at third
+  all-words : (t : Part) → at .polygons ≡ t .polygons → at .vertices ≡ t .vertices → Bodies t x → SharedSegments t y → Faces t z → WordsBefore t at third
   all-words t e v b c f =
       record {
         labels = labels-as t x third (b .labels) (λ q l. label-kept q (omega (arith, l, e, laid))) (omega (arith, room, e, laid, third-length));
@@ -76,15 +83,92 @@ module _ (at : Regions) (laid : Laid at) (s x y z : List ℕ) (room : at .words 
       (outside-wide 0 _ _ 0 (at .readings) first second (omega arith) (omega (arith, laid)) (outside-put 0 (at .sides) (at .faces) first y (omega (arith, laid)) (omega (arith, room, laid, first-length)) ly))
       (outside-wide 0 _ _ 0 (at .readings) second third (omega arith) (omega arith) (outside-put 0 (at .faces) (at .readings) second z (omega (arith, laid)) (omega (arith, room, laid, second-length)) lz)))
 
-  pub words-put : ((t : Part) → at .polygons ≡ t .polygons → at .vertices ≡ t .vertices → Bodies t x → SharedSegments t y → Faces t z → Words t at third) × Outside 0 0 (at .readings) s third
+  pub words-put : ((t : Part) → at .polygons ≡ t .polygons → at .vertices ≡ t .vertices → Bodies t x → SharedSegments t y → Faces t z → WordsBefore t at third) × Outside 0 0 (at .readings) s third
   words-put = (all-words, outside)
+
+-- then the chain
+pub words-chain : (t : Part) (at : Regions) (words words′ : List ℕ) → Laid at → at .words ≤ length words → at .polygons ≡ t .polygons → WordsBefore t at words →
+    Chain t (part (at .chain) (at .faces) words′) → Outside 0 (at .chain) (at .faces) words words′ → Words t at words′
+words-chain t at words words′ laid room e w chain o =
+    record {
+      labels = labels-as t words words′ (w .labels) (λ q l. o .below q (omega (arith, l, e, laid))) (omega (arith, room, e, laid, o .long));
+      sides = subst (SharedSegments t)
+          (sym (outside-part 0 (at .chain) (at .faces) (at .sides) (at .items) words words′ (omega (arith, laid)) (omega (arith, room, laid)) o)) (w .sides);
+      chain = chain;
+      faces = subst (Faces t)
+          (sym (outside-after 0 (at .chain) (at .faces) (at .faces) (at .readings) words words′ (omega arith) (omega (arith, room, laid)) o)) (w .faces);
+    }
+
+-- ---- the chain, from the last polygon down
+-- `next` has the lowest polygon of each face from q on
+pub record NextFrom (t : Part) (q : ℕ) (next : List ℕ) : Type 0 where
+  pub each : (f : ℕ) → f < 1024 → getD next f 0 ≡ nextOf t f q
+  pub long : length next ≡ 1024
+
+pub next-none : (t : Part) (q : ℕ) (next : List ℕ) → q ≡ t .polygons → next ≡ replicate 1024 q → NextFrom t q next
+next-none t q next e filled =
+    record {
+      each = λ f l. filled-at next 1024 q 0 filled f l ∙ e ∙ sym (next-end t f) ∙ ap (nextOf t f) (sym e);
+      long = ap length filled ∙ length-replicate {A = ℕ} 1024 q;
+    }
+
+-- polygon q, of face f, is next
+pub next-more : (t : Part) (k q f : ℕ) (next : List ℕ) → k ≡ q + 1 → q < t .polygons → f ≡ faceNumber t q → f < 1024 → NextFrom t k next →
+    NextFrom t q (set next f q)
+next-more t k q f next one l e low h =
+    record { each = λ g m. go g m (lt-or-ge g f) (lt-or-ge f g); long = length-set next f q ∙ h .long }
+  where
+    apart : (g : ℕ) → g < 1024 → (g ≡ f → ⊥) → getD (set next f q) g 0 ≡ nextOf t g q
+    apart g m other = getD-set-other next f g q 0 other ∙ h .each g m ∙ ap (nextOf t g) one ∙ sym (next-other t g q (λ at. other (sym at ∙ sym e)) l)
+
+    go : (g : ℕ) → g < 1024 → (g < f) ⊎ (f ≤ g) → (f < g) ⊎ (g ≤ f) → getD (set next f q) g 0 ≡ nextOf t g q
+    go g m (inl below) b = apart g m (λ at. omega (arith, at, below))
+    go g m (inr a) (inl above) = apart g m (λ at. omega (arith, at, above))
+    go g m (inr a) (inr b) =
+        let same : f ≡ g = omega (arith, a, b) in
+        subst (λ (k : ℕ). getD (set next f q) k 0 ≡ nextOf t k q) same
+        (getD-set-same next f q 0 (omega (arith, low, h .long)) ∙ sym (next-here t f q l (sym e)))
+
+-- the chain of the polygons from q on, which stands from `chain` on
+pub record ChainFrom (t : Part) (chain q : ℕ) (words : List ℕ) : Type 0 where
+  pub each : (p : ℕ) → q ≤ p → p < t .polygons → getD words (chain + p) 0 ≡ nextPolygon t p
+
+pub chain-none : (t : Part) (chain q : ℕ) (words : List ℕ) → q ≡ t .polygons → ChainFrom t chain q words
+chain-none t chain q words e = record { each = λ p low high. absurd (omega (arith, low, high, e)) }
+
+pub chain-more : (t : Part) (chain k q f : ℕ) (words next : List ℕ) → k ≡ q + 1 → chain + q < length words → f ≡ faceNumber t q → f < 1024 → NextFrom t k next →
+    ChainFrom t chain k words → ChainFrom t chain q (set words (chain + q) (getD next f 0))
+unfolding nextPolygon
+chain-more t chain k q f words next one room e few n h = record { each = λ p low high. go p low high (lt-or-ge q p) }
+  where
+    x : ℕ
+    x = getD next f 0
+
+    go : (p : ℕ) → q ≤ p → p < t .polygons → (q < p) ⊎ (p ≤ q) → getD (set words (chain + q) x) (chain + p) 0 ≡ nextOf t (faceNumber t p) (p + 1)
+    go p low high (inl after) = getD-set-other words (chain + q) (chain + p) x 0 (λ at. omega (arith, at, after)) ∙ h .each p (omega (arith, after, one)) high
+    go p low high (inr here) =
+        let same : q ≡ p = omega (arith, low, here) in
+        subst (λ (r : ℕ). getD (set words (chain + q) x) (chain + r) 0 ≡ nextOf t (faceNumber t r) (r + 1)) same
+        (getD-set-same words (chain + q) x 0 room ∙ n .each f few ∙ ap (nextOf t f) one ∙ ap (λ (g : ℕ). nextOf t g (q + 1)) e)
+
+pub chain-all : (t : Part) (at : Regions) (q : ℕ) (words : List ℕ) → Laid at → at .words ≤ length words → at .polygons ≡ t .polygons →
+    3 * at .polygons ≤ at .vertices → q ≤ 0 → ChainFrom t (at .chain) q words → Chain t (part (at .chain) (at .faces) words)
+chain-all t at q words laid room e few done h =
+    record {
+      each = λ p l. part-place (at .chain) (at .faces) words 0 p (omega (arith, l, e, few, laid)) ∙ h .each p (omega (arith, done)) l;
+      long = omega (arith, e, few, laid, part-length (at .chain) (at .faces) words (omega (arith, room, laid)));
+    }
 
 -- ---- single cells
 -- the face of polygon q
+pub number-at : (t : Part) (at : Regions) (words : List ℕ) (q : ℕ) → Laid at → Faces t (part (at .faces) (at .readings) words) →
+    at .polygons ≡ t .polygons → q < at .polygons → getD words (at .faces + q) 0 ≡ faceNumber t q
+number-at t at words q laid w e l =
+    sym (part-place (at .faces) (at .readings) words 0 q (omega (arith, l, laid))) ∙ w .numbers .each q (omega (arith, l, e))
+
 pub face-at : (t : Part) (at : Regions) (words : List ℕ) (q : ℕ) → Laid at → Words t at words → at .polygons ≡ t .polygons → q < at .polygons →
     getD words (at .faces + q) 0 ≡ faceNumber t q
-face-at t at words q laid w e l =
-    sym (part-place (at .faces) (at .readings) words 0 q (omega (arith, l, laid))) ∙ w .faces .numbers .each q (omega (arith, l, e))
+face-at t at words q laid w e l = number-at t at words q laid (w .faces) e l
 
 -- the first polygon of face f
 pub first-at : (t : Part) (at : Regions) (words : List ℕ) (f : ℕ) → Laid at → Words t at words → at .polygons ≡ t .polygons → f < facesOf t → facesOf t ≤ 1024 →
@@ -93,6 +177,19 @@ first-at t at words f laid w e l few =
     let place : at .firsts + f ≡ at .faces + (t .polygons + f) = omega (arith, e, laid) in
     ap (λ (k : ℕ). getD words k 0) place
     ∙ sym (part-place (at .faces) (at .readings) words 0 (t .polygons + f) (omega (arith, l, few, e, laid))) ∙ w .faces .firsts f l
+
+-- the polygon that begins it
+pub begins-at : (t : Part) (at : Regions) (words : List ℕ) (f q : ℕ) → Laid at → Words t at words → at .polygons ≡ t .polygons → f < facesOf t → facesOf t ≤ 1024 →
+    q ≡ getD words (at .firsts + f) 0 → Begins t (t .polygons) f q
+begins-at t at words f q laid w e l few is =
+    subst (Begins t (t .polygons) f) (sym (is ∙ first-at t at words f laid w e l few)) (first-polygon-begins t f l)
+
+-- the next polygon of q's face
+pub link-at : (t : Part) (at : Regions) (words : List ℕ) (q : ℕ) → Laid at → at .words ≤ length words → Words t at words → at .polygons ≡ t .polygons → q < at .polygons →
+    getD words (at .chain + q) 0 ≡ nextPolygon t q
+link-at t at words q laid room w e l =
+    let long = part-length (at .chain) (at .faces) words (omega (arith, room, laid)) in
+    sym (part-place (at .chain) (at .faces) words 0 q (omega (arith, l, e, w .chain .long, long))) ∙ w .chain .each q (omega (arith, l, e))
 
 -- ---- the bodies as they are lent to the volumes
 pub labels-lent : (t : Part) (at : Regions) (words : List ℕ) → Laid at → at .words ≤ length words → at .polygons ≡ t .polygons → Words t at words →

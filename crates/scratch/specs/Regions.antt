@@ -23,7 +23,7 @@ pub record Laid (at : Regions) : Type 0 where
   pub items : at .items ≡ at .sides + 3 * at .vertices
   -- .. and the places in order, with as many cells of work
   pub sorted : at .sorted ≡ at .items + at .vertices
-  -- not used yet
+  -- the next polygon of the face of each polygon; the cells past those are not used
   pub chain : at .chain ≡ at .sorted + 2 * at .vertices
   -- the face of each polygon
   pub faces : at .faces ≡ at .chain + 2 * at .vertices
@@ -57,7 +57,7 @@ pub record Laid (at : Regions) : Type 0 where
   pub rounds : at .rounds ≡ at .weights + at .polygons
   -- the directions of a round's vertices, of one round at a time
   pub directions : at .directions ≡ at .rounds + 7 * at .polygons
-  -- not used yet
+  -- free
   pub free : at .free ≡ at .directions + at .vertices
   -- the end
   pub reals : at .reals ≡ realsNeeded (at .polygons) (at .vertices)

@@ -11,7 +11,7 @@ use Rattle.solid_segments.specs.Sides.{SharedSegments}
 use Rattle.solid_bodies.specs.Body.{Labels}
 use Rattle.solid_volumes.specs.Volume.{Volumes}
 use Rattle.solid_faces.specs.Faces.{Checked}
-use Rattle.solid_faces.specs.Kept.{Faces, KeptPlanes, KeptAreas, FaceAreas}
+use Rattle.solid_faces.specs.Kept.{Faces, Chain, KeptPlanes, KeptAreas, FaceAreas}
 use Rattle.scratch.specs.declared.regions.Regions.{Regions}
 use Rattle.scratch.specs.Regions.{Laid}
 
@@ -26,6 +26,7 @@ pub record Placed (s : List ℕ) (at : Regions) : Type 0 where
 pub record Words (t : Part) (at : Regions) (words : List ℕ) : Type 0 where
   pub labels : Labels t words
   pub sides : SharedSegments t (part (at .sides) (at .items) words)
+  pub chain : Chain t (part (at .chain) (at .faces) words)
   pub faces : Faces t (part (at .faces) (at .readings) words)
 
 -- the f64 scratch
@@ -46,5 +47,6 @@ pub record Standing (s : List ℕ) (at : Regions) (words : List ℕ) (reals : Li
 -- what later stages may change of the words: the cells for sides in order, and those past the body. All else is as it was
 pub record BodyKept (at : Regions) (old new : List ℕ) : Type 0 where
   pub front : (i : ℕ) → i < at .items → getD new i 0 ≡ getD old i 0
+  pub chain : (i : ℕ) → at .chain ≤ i → i < at .faces → getD new i 0 ≡ getD old i 0
   pub faces : (i : ℕ) → at .faces ≤ i → i < at .readings → getD new i 0 ≡ getD old i 0
   pub long : length new ≡ length old

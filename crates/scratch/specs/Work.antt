@@ -1,10 +1,19 @@
 -- What the functions of this crate leave on the way. A reader may pass over it.
 use mathlib.Core.List.{List}
+use Prim.Native.Nat.{ℕ}
 use lib.Ieee.{Float, nan}
 use Rattle.list_laws.specs.Region.{part, Outside}
 use Rattle.file_part.specs.Part.{Part}
-use Rattle.solid_faces.specs.Kept.{FaceAreas}
+use Rattle.solid_segments.specs.Sides.{SharedSegments}
+use Rattle.solid_bodies.specs.Body.{Labels}
+use Rattle.solid_faces.specs.Kept.{Faces, FaceAreas}
 use Rattle.scratch.specs.declared.regions.Regions.{Regions}
+
+-- the bodies, the sides and the faces are put, and the chain is not yet
+pub record WordsBefore (t : Part) (at : Regions) (words : List ℕ) : Type 0 where
+  pub labels : Labels t words
+  pub sides : SharedSegments t (part (at .sides) (at .items) words)
+  pub faces : Faces t (part (at .faces) (at .readings) words)
 
 -- the areas of the faces are put, and nothing else has changed
 pub record TotalsPut (t : Part) (at : Regions) (old new : List Float) : Type 0 where

@@ -6,7 +6,7 @@ ghost use lib.Ieee.{nan};
 ghost use Rattle.list_laws.specs.Region.{part, Outside};
 ghost use Rattle.file_part.specs.Part.{partOf};
 ghost use Rattle.solid_faces.specs.Faces.{facesOf};
-ghost use Rattle.solid_faces.specs.Kept.{KeptAreas};
+ghost use Rattle.solid_faces.specs.Kept.{Faces, Chain, KeptAreas};
 ghost use Rattle.scratch.specs.Standing.{Placed, Words, Reals, Standing};
 ghost use Rattle.scratch.specs.Work.{TotalsPut};
 use crate::regions::Regions;
@@ -17,7 +17,26 @@ use solid_faces::areas::put_areas;
 use solid_faces::areas::put_planes;
 use solid_volumes::volume::volumes;
 
-// The bodies, the sides and the faces. The number of faces.
+// For each polygon the next one of its face, from the last polygon down: `next` has for each face its lowest polygon so far.
+fn put_chain(file: &[u8], words: &mut [u32], at: Regions)
+    requires { ⌜ Placed (now file) at ⌝ ∗ ⌜ at .words ≤ length (now words) ⌝ ∗ ⌜ Faces (partOf (now file)) (part (at .faces) (at .readings) (now words)) ⌝ }
+    ensures { λ r. ⌜ Chain (partOf (now (file .entry))) (part (at .chain) (at .faces) (now (words .exit))) ⌝ }
+    ensures { λ r. ⌜ Outside 0 (at .chain) (at .faces) (now (words .entry)) (now (words .exit)) ⌝ }
+{
+    let chain = at.chain;
+    let faces = at.faces;
+    let polygons = at.polygons;
+    let mut next = [polygons as u32; 1024];
+    let mut q = polygons;
+    while q > 0 {
+        q -= 1;
+        let f = wide(words[faces + q]);
+        words[chain + q] = next[f];
+        next[f] = q as u32;
+    }
+}
+
+// The bodies, the sides, the faces and the polygons of each. The number of faces.
 fn put_words(file: &[u8], words: &mut [u32], at: Regions) -> usize
     requires { ⌜ Placed (now file) at ⌝ ∗ ⌜ at .words ≤ length (now words) ⌝ }
     ensures { λ r. ⌜ r ≡ facesOf (partOf (now (file .entry))) ⌝ ∗ ⌜ Words (partOf (now (file .entry))) at (now (words .exit)) ⌝ }
@@ -30,7 +49,9 @@ fn put_words(file: &[u8], words: &mut [u32], at: Regions) -> usize
     let faces = at.faces;
     solid_segments::shared::shared_segments(file, &mut words[sides..faces]);
     let end = at.readings;
-    solid_faces::faces::faces(file, &mut words[faces..end])
+    let n = solid_faces::faces::faces(file, &mut words[faces..end]);
+    put_chain(file, words, at);
+    n
 }
 
 // The area of each face, added in the order of its polygons.

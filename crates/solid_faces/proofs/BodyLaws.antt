@@ -2,7 +2,7 @@
 use mathlib.Core.Path.{_≡_, refl, sym, ap, _∙_, subst}
 use mathlib.Core.Bool.{Bool, true, false, not, cond}
 use mathlib.Core.List.{List}
-use Prim.Native.Nat.{ℕ, _+_, _*_, _≤_, _<_}
+use Prim.Native.Nat.{ℕ, zero, suc, _+_, _*_, _≤_, _<_}
 use native.Mathlib.Omega.{arith}
 use native.Mathlib.Nat.{le-antisymm}
 use lib.Dec.{eqb, leb, ltb}
@@ -10,22 +10,22 @@ use lib.ListN.{length}
 use lib.Ieee.{Float}
 use borrow.Author.Tests.{not-true, not-false, eqb-true, eq-eqb, ne-eqb, leb-true, leb-false, ltb-false, lt-ltb, le-ltb}
 use Rattle.num_float.proofs.Tests.{contrary}
-use Rattle.list_laws.specs.Below.{allBelow}
+use Rattle.list_laws.specs.Below.{allBelow, sumBelow}
 use Rattle.list_laws.proofs.Below.{all-none, all-more, all-each, all-fails}
 use Rattle.file_part.specs.declared.read.FaceId.{FaceId}
 use Rattle.file_ok.specs.declared.verdict.Verdict.{Verdict}
 use Rattle.file_ok.specs.declared.verdict.Verdict.the-variants.{Accepted, TooShort, WrongEdition, TooLarge, WrongLength, BadJob, BadVertex, BadPolygon, FlatPolygon, TooManyFaces}
 use Rattle.file_part.specs.Layout.{vertexCount, polygonCount, entryAt}
 use Rattle.file_part.specs.Part.{Part, faceAt, firstAt, countAt, polygonAt, partOf}
+use Rattle.file_ok.specs.Rules.{runStart}
 use Rattle.file_ok.specs.Verdict.{number, verdictOf, Readable}
 use Rattle.file_part.proofs.PartLaws.{part-polygons}
-use Rattle.file_ok.proofs.ReadableLaws.{readable-length, readable-counts, readable-run}
+use Rattle.file_ok.proofs.ReadableLaws.{readable-length, readable-counts, readable-run, readable-whole}
 use Rattle.solid_polygon.specs.declared.polygon.Plane.{Plane}
 use Rattle.solid_polygon.specs.Polygon.{cornerAt, areaOf}
 use Rattle.solid_polygon.specs.Plane.{isFlat, planeOf}
-use Rattle.solid_faces.specs.Faces.{sameFace, facesOf, faceNumber, polygonCorner, polygonFlat, polygonPlane, polygonArea, someFlat, tooManyFaces, bodyVerdict, Checked}
-use Rattle.solid_faces.specs.Kept.{Firsts}
-use Rattle.solid_faces.proofs.FaceLaws.{count-grows, number-below}
+use Rattle.solid_faces.specs.Faces.{facesOf, faceNumber, polygonCorner, polygonFlat, polygonPlane, polygonArea, someFlat, tooManyFaces, bodyVerdict, Checked}
+use Rattle.solid_faces.proofs.FaceLaws.{number-below}
 
 -- ---- where a polygon's entry and its run stand, in the words of the functions that read them
 pub readable-long : (s : List ℕ) → Readable s → 16 ≤ length s
@@ -55,6 +55,15 @@ run-room s v m p first n h a b l e q =
     let c : n ≡ countAt s (entryAt (vertexCount s) p) = q ∙ ap (λ (k : ℕ). countAt s (entryAt k p)) a in
     record { inside = omega (arith, readable-length s h, r .first, r .inside, f, c); least = omega (arith, r .least, c); most = omega (arith, r .most, c) }
 
+-- each polygon has three vertices at least
+runs-three : (s : List ℕ) → Readable s → (p : ℕ) → p ≤ polygonCount s → 3 * p ≤ runStart s (vertexCount s) p
+unfolding runStart sumBelow
+runs-three s h zero l = omega arith
+runs-three s h (suc p) l = omega (arith, runs-three s h p (omega (arith, l)), readable-run s h p (omega (arith, l)) .least)
+
+pub three-vertices : (s : List ℕ) → Readable s → 3 * polygonCount s ≤ vertexCount s
+three-vertices s h = omega (arith, runs-three s h (polygonCount s) (omega arith), readable-whole s h)
+
 -- the part's polygon in the words of the functions on a run
 pub run-flat : (s : List ℕ) (v p at first n : ℕ) (b : Bool) → v ≡ vertexCount s → at ≡ entryAt v p → first ≡ firstAt s at → n ≡ countAt s at →
     b ≡ isFlat (cornerAt s first) n → b ≡ polygonFlat (partOf s) p
@@ -71,15 +80,20 @@ pub run-area : (s : List ℕ) (v p at first n : ℕ) (x : Float) → v ≡ verte
 unfolding polygonArea polygonCorner partOf polygonAt cornerAt
 run-area s v p at first n x a i e q h = h ∙ rw (e, q, i, a)
 
--- two entries of one face
-pub one-face : (s : List ℕ) (v q p i j : ℕ) (a b : FaceId) (r : Bool) → v ≡ vertexCount s → i ≡ entryAt v q → j ≡ entryAt v p →
-    a ≡ faceAt s i → b ≡ faceAt s j → r ≡ sameFace a b → r ≡ sameFace (partOf s .polygon q .face) (partOf s .polygon p .face)
+-- the face of an entry
+pub face-is : (s : List ℕ) (v p at : ℕ) (a : FaceId) → v ≡ vertexCount s → at ≡ entryAt v p → a ≡ faceAt s at → a ≡ partOf s .polygon p .face
 unfolding partOf polygonAt
-one-face s v q p i j a b r e k l x y h = h ∙ rw (x, y, k, l, e)
+face-is s v p at a e k x = x ∙ rw (k, e)
 
 -- the part's polygons, counted from the file
 pub polygons-are : (s : List ℕ) (m : ℕ) → m ≡ polygonCount s → m ≡ partOf s .polygons
 polygons-are s m e = e ∙ sym (part-polygons s)
+
+pub within : (s : List ℕ) (p : ℕ) → p < polygonCount s → p < partOf s .polygons
+within s p l = omega (arith, l, part-polygons s)
+
+pub inside : (s : List ℕ) (p : ℕ) → p < polygonCount s → p ≤ partOf s .polygons
+inside s p l = omega (arith, l, part-polygons s)
 
 -- ---- refusal 8: the loop over the polygons
 abbrev pub NoneFlat : Part → ℕ → Type 0
@@ -188,9 +202,3 @@ number-room s m p f k a l e room = omega (arith, e, room, number-below (partOf s
 
 pub checked-number : (s : List ℕ) (m p f : ℕ) → Checked s → m ≡ polygonCount s → p < m → f ≡ faceNumber (partOf s) p → f < 1024
 checked-number s m p f h a l e = number-room s m p f 1024 a l e (checked-faces s h)
-
--- how many there are so far
-pub checked-firsts : (s : List ℕ) (m p n : ℕ) (first : ℕ → ℕ) → Checked s → m ≡ polygonCount s → p ≤ m → Firsts (partOf s) p n first → n ≤ 1024
-unfolding facesOf
-checked-firsts s m p n first h a l f =
-    omega (arith, f .count, checked-faces s h, count-grows (partOf s) p (partOf s .polygons) (omega (arith, l, a, part-polygons s)))

@@ -30,32 +30,16 @@ firsts-has t p n first q h l new =
     let below : faceCount t q < n = omega (arith, h .count, count-passes t q p l new) in
     (below, new-apart t (first (faceCount t q)) q (h .new (faceCount t q) below) new (h .number (faceCount t q) below))
 
--- the scan for it: none of the first f is of polygon p's face
-pub record NoneSame (t : Part) (first : ℕ → ℕ) (p f : ℕ) : Type 0 where
-  pub each : (g : ℕ) → g < f → sameFace (t .polygon (first g) .face) (t .polygon p .face) ≡ false
-
-pub same-none : (t : Part) (first : ℕ → ℕ) (p : ℕ) → NoneSame t first p 0
-same-none t first p = record { each = λ g l. absurd (omega (arith, l)) }
-
-same-more : (t : Part) (first : ℕ → ℕ) (p f : ℕ) (b : Bool) → b ≡ sameFace (t .polygon (first f) .face) (t .polygon p .face) → b ≡ false →
-    NoneSame t first p f → NoneSame t first p (f + 1)
-same-more t first p f b e h none = record { each = λ g l. go g l (lt-or-ge g f) }
-  where
-    go : (g : ℕ) → g < f + 1 → (g < f) ⊎ (f ≤ g) → sameFace (t .polygon (first g) .face) (t .polygon p .face) ≡ false
-    go g l (inl below) = none .each g below
-    go g l (inr above) =
-        let here : f ≡ g = omega (arith, l, above) in
-        subst (λ (k : ℕ). sameFace (t .polygon (first k) .face) (t .polygon p .face) ≡ false) here (sym e ∙ h)
-
 -- none of them
-pub firsts-missed : (t : Part) (p n : ℕ) (first : ℕ → ℕ) (f : ℕ) → Firsts t p n first → n ≤ f → NoneSame t first p f → n ≡ faceNumber t p
-firsts-missed t p n first f h all none = go (lt-or-ge (firstOf t p) p)
+pub firsts-missed : (t : Part) (p n : ℕ) (first : ℕ → ℕ) → Firsts t p n first →
+    ((g : ℕ) → g < n → sameFace (t .polygon (first g) .face) (t .polygon p .face) ≡ false) → n ≡ faceNumber t p
+firsts-missed t p n first h none = go (lt-or-ge (firstOf t p) p)
   where
     go : (firstOf t p < p) ⊎ (p ≤ firstOf t p) → n ≡ faceNumber t p
     go (inl below) =
         let has = firsts-has t p n first (firstOf t p) h below (first-new t p) in
         absurd (contrary (is-same _ _ (ap (λ (k : ℕ). t .polygon k .face) (has .1) ∙ first-same t p))
-        (none .each (faceCount t (firstOf t p)) (omega (arith, all, has .0))))
+        (none (faceCount t (firstOf t p)) (has .0)))
     go (inr above) =
         let here : firstOf t p ≡ p = omega (arith, above, first-le t p) in
         h .count ∙ sym (ap (faceCount t) here) ∙ sym (number-first t p)
@@ -70,7 +54,7 @@ firsts-none t first =
       number = λ f l. absurd (omega (arith, l));
     }
 
-firsts-as : (t : Part) (p n : ℕ) (a b : ℕ → ℕ) → Firsts t p n a → ((f : ℕ) → f < n → b f ≡ a f) → Firsts t p n b
+pub firsts-as : (t : Part) (p n : ℕ) (a b : ℕ → ℕ) → Firsts t p n a → ((f : ℕ) → f < n → b f ≡ a f) → Firsts t p n b
 firsts-as t p n a b h same =
     record {
       count = h .count;
@@ -79,8 +63,12 @@ firsts-as t p n a b h same =
       number = λ f l. subst (λ (q : ℕ). faceCount t q ≡ f) (sym (same f l)) (h .number f l);
     }
 
+-- they are as many as anywhere
+pub firsts-count : (t : Part) (p n m : ℕ) (a b : ℕ → ℕ) → Firsts t p n a → Firsts t p m b → Firsts t p m a
+firsts-count t p n m a b h g = subst (λ (k : ℕ). Firsts t p k a) (h .count ∙ sym (g .count)) h
+
 -- its face is new where its number is the next one, and only there
-number-next : (t : Part) (p : ℕ) → faceNumber t p ≡ faceCount t p → isNew t p ≡ true
+pub number-next : (t : Part) (p : ℕ) → faceNumber t p ≡ faceCount t p → isNew t p ≡ true
 number-next t p e = go (lt-or-ge (firstOf t p) p)
   where
     go : (firstOf t p < p) ⊎ (p ≤ firstOf t p) → isNew t p ≡ true
@@ -90,7 +78,7 @@ number-next t p e = go (lt-or-ge (firstOf t p) p)
 pub number-le : (t : Part) (p : ℕ) → faceNumber t p ≤ faceCount t p
 number-le t p = omega (arith, number-first t p, count-grows t (firstOf t p) p (first-le t p))
 
-firsts-old : (t : Part) (p n : ℕ) (first : ℕ → ℕ) → Firsts t p n first → isNew t p ≡ false → Firsts t (p + 1) n first
+pub firsts-old : (t : Part) (p n : ℕ) (first : ℕ → ℕ) → Firsts t p n first → isNew t p ≡ false → Firsts t (p + 1) n first
 firsts-old t p n first h old =
     record {
       count = h .count ∙ sym (count-old t p old);
@@ -99,7 +87,7 @@ firsts-old t p n first h old =
       number = h .number;
     }
 
-firsts-new : (t : Part) (p n : ℕ) (first : ℕ → ℕ) → Firsts t p n first → isNew t p ≡ true → first n ≡ p → Firsts t (p + 1) (n + 1) first
+pub firsts-new : (t : Part) (p n : ℕ) (first : ℕ → ℕ) → Firsts t p n first → isNew t p ≡ true → first n ≡ p → Firsts t (p + 1) (n + 1) first
 firsts-new t p n first h new last =
     record {
       count = omega (arith, h .count, count-new t p new);
@@ -142,12 +130,6 @@ pub from-found : (t : Part) (p n : ℕ) (l : List ℕ) (start f : ℕ) (b : Bool
     b ≡ sameFace (t .polygon (getD l (start + f) 0) .face) (t .polygon p .face) → b ≡ true → f ≡ faceNumber t p
 unfolding from
 from-found t p n l start f b h low e same = firsts-found t p n (from l start) f h low (sym e ∙ same)
-
-pub from-more : (t : Part) (p : ℕ) (l : List ℕ) (start f : ℕ) (b : Bool) →
-    b ≡ sameFace (t .polygon (getD l (start + f) 0) .face) (t .polygon p .face) → b ≡ false →
-    NoneSame t (from l start) p f → NoneSame t (from l start) p (f + 1)
-unfolding from
-from-more t p l start f b e other h = same-more t (from l start) p f b e other h
 
 -- what `note` leaves
 pub record Noted (l l' : List ℕ) (start n f p r : ℕ) : Type 0 where
@@ -254,34 +236,6 @@ faces-done t l n p P e a b firsts numbers =
 -- ---- at most 1,024 faces
 pub few-next : (t : Part) (first : ℕ → ℕ) (n p f : ℕ) → Firsts t p n first → n ≤ 1024 → f ≡ faceNumber t p → (f ≡ 1024 → ⊥) → f < 1024
 few-next t first n p f h most e other = omega (arith, h .count, number-le t p, most, e, other)
-
-few-noted : (l l' : List ℕ) (start n f p r : ℕ) → Noted l l' start n f p r → n ≤ 1024 → f < 1024 → r ≤ 1024
-few-noted l l' start n f p r h most low = go (lt-or-ge f n) (lt-or-ge n f)
-  where
-    other : (f ≡ n → ⊥) → r ≤ 1024
-    other ne = omega (arith, most, h .count ∙ ap (λ (b : Bool). cond b (n + 1) n) (ne-eqb f n ne))
-
-    go : (f < n) ⊎ (n ≤ f) → (n < f) ⊎ (f ≤ n) → r ≤ 1024
-    go (inl below) either = other (λ e. omega (arith, e, below))
-    go (inr a) (inl above) = other (λ e. omega (arith, e, above))
-    go (inr a) (inr b) =
-        let same : f ≡ n = omega (arith, a, b) in
-        omega (arith, low, same, h .count ∙ ap (λ (b : Bool). cond b (n + 1) n) (eq-eqb f n same))
-
-pub record FewTurn (t : Part) (l' : List ℕ) (p r : ℕ) : Type 0 where
-  pub few : r ≤ 1024
-  pub long : length l' ≡ 1024
-  pub firsts : Firsts t (p + 1) r (from l' 0)
-
-pub few-turn : (t : Part) (l l' : List ℕ) (n f p r : ℕ) → Noted l l' 0 n f p r → length l ≡ 1024 → n ≤ 1024 → f ≡ faceNumber t p → (f ≡ 1024 → ⊥) →
-    Firsts t p n (from l 0) → FewTurn t l' p r
-few-turn t l l' n f p r h long most e other firsts =
-    let low : f < 1024 = few-next t (from l 0) n p f firsts most e other in
-    record {
-      few = few-noted l l' 0 n f p r h most low;
-      long = noted-length l l' 0 n f p r h ∙ long;
-      firsts = noted t l l' 0 n f p r h (omega (arith, low, long)) e firsts;
-    }
 
 pub many-faces : (t : Part) (p f : ℕ) → p < t .polygons → f ≡ faceNumber t p → f ≡ 1024 → false ≡ leb (facesOf t) 1024
 many-faces t p f low e most = sym (lt-leb (facesOf t) 1024 (omega (arith, e, most, number-below t p low)))

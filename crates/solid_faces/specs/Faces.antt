@@ -4,7 +4,7 @@ use mathlib.Core.Path.{_≡_}
 use mathlib.Core.Bool.{Bool, not, _&&_, cond}
 use mathlib.Core.List.{List}
 use Prim.Native.Nat.{ℕ, zero, suc, _+_}
-use lib.Dec.{eqb, ltb}
+use lib.Dec.{eqb, ltb, leb}
 use lib.Ieee.{Float, binary64, add}
 use Rattle.list_laws.specs.Below.{allBelow, countBelow, lowestBelow}
 use Rattle.math.specs.declared.Vec3.{Vec3}
@@ -45,6 +45,14 @@ faceNumber t p = faceCount t (firstOf t p)
 -- the polygon that begins face f
 unfoldable pub firstPolygon : Part → ℕ → ℕ
 firstPolygon t f = lowestBelow (t .polygons) (λ p. isNew t p && eqb (faceNumber t p) f)
+
+-- the lowest polygon from q on that is of face f; the number of polygons where none is
+unfoldable pub nextOf : Part → ℕ → ℕ → ℕ
+nextOf t f q = lowestBelow (t .polygons) (λ r. leb q r && eqb (faceNumber t r) f)
+
+-- the lowest polygon above p that is of p's face; the number of polygons where none is
+unfoldable pub nextPolygon : Part → ℕ → ℕ
+nextPolygon t p = nextOf t (faceNumber t p) (p + 1)
 
 -- ---- the polygons
 -- the corners of polygon p, from 0 on

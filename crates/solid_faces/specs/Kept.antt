@@ -8,7 +8,7 @@ use lib.Ieee.{Float, nan}
 use Rattle.math.specs.Vector.{vec}
 use Rattle.file_part.specs.Part.{Part}
 use Rattle.solid_polygon.specs.declared.polygon.Plane.{Plane}
-use Rattle.solid_faces.specs.Faces.{isNew, faceCount, facesOf, faceNumber, firstPolygon, polygonArea, polygonPlane, faceAreaTo, faceArea}
+use Rattle.solid_faces.specs.Faces.{isNew, faceCount, facesOf, faceNumber, firstPolygon, nextPolygon, polygonArea, polygonPlane, faceAreaTo, faceArea}
 
 -- ---- faces
 -- the numbers kept from a place on
@@ -27,10 +27,19 @@ pub record FaceNumbers (t : Part) (p : ℕ) (l : List ℕ) : Type 0 where
   pub each : (q : ℕ) → q < p → getD l q 0 ≡ faceNumber t q
   pub long : p ≤ length l
 
+-- the cells that `faces` is lent for p polygons: a number each, and the first polygons of at most 1,024 faces
+abbrev pub faceCells : ℕ → ℕ
+faceCells p = p + 1024
+
 -- the face of each polygon, and after them the first polygon of each face
 pub record Faces (t : Part) (l : List ℕ) : Type 0 where
   pub numbers : FaceNumbers t (t .polygons) l
   pub firsts : (f : ℕ) → f < facesOf t → getD l (t .polygons + f) 0 ≡ firstPolygon t f
+
+-- for each polygon the next one of its face, so that a face's polygons are met from its first on
+pub record Chain (t : Part) (l : List ℕ) : Type 0 where
+  pub each : (p : ℕ) → p < t .polygons → getD l p 0 ≡ nextPolygon t p
+  pub long : t .polygons ≤ length l
 
 -- ---- areas
 -- of each polygon below p
@@ -52,6 +61,10 @@ planeAt l p = record { normal = vec (getD l (4 * p) nan) (getD l (4 * p + 1) nan
 -- the numbers with x as plane p
 unfoldable pub putPlane : List Float → ℕ → Plane → List Float
 putPlane l p x = set (set (set (set l (4 * p) (x .normal .x)) (4 * p + 1) (x .normal .y)) (4 * p + 2) (x .normal .z)) (4 * p + 3) (x .w)
+
+-- the cells that `put_planes` is lent for p polygons
+abbrev pub planeCells : ℕ → ℕ
+planeCells p = 4 * p
 
 -- of each polygon below p
 pub record KeptPlanes (t : Part) (p : ℕ) (l : List Float) : Type 0 where

@@ -6,7 +6,7 @@ ghost use lib.Ieee.{nan, binary64, add};
 ghost use Rattle.file_part.specs.Layout.{polygonCount};
 ghost use Rattle.file_part.specs.Part.{partOf};
 ghost use Rattle.solid_faces.specs.Faces.{Checked};
-ghost use Rattle.solid_faces.specs.Kept.{KeptAreas, putPlane, KeptPlanes};
+ghost use Rattle.solid_faces.specs.Kept.{KeptAreas, putPlane, planeCells, KeptPlanes};
 use file_part::read::entry_at;
 use file_part::read::first_vertex;
 use file_part::read::polygon_count;
@@ -52,7 +52,7 @@ fn put_plane(planes: &mut [f64], p: usize, plane: Plane)
 
 // The plane of each polygon: normal and w, four numbers from 4p on.
 pub fn put_planes(file: &[u8], planes: &mut [f64])
-    requires { ⌜ Checked (now file) ⌝ ∗ ⌜ length (now planes) ≡ 4 * polygonCount (now file) ⌝ }
+    requires { ⌜ Checked (now file) ⌝ ∗ ⌜ length (now planes) ≡ planeCells (polygonCount (now file)) ⌝ }
     ensures { λ r. ⌜ KeptPlanes (partOf (now (file .entry))) (polygonCount (now (file .entry))) (now (planes .exit)) ⌝ }
     ensures { λ r. ⌜ length (now (planes .exit)) ≡ length (now (planes .entry)) ⌝ }
 {

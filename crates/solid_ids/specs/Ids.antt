@@ -2,13 +2,13 @@
 use mathlib.Core.Path.{_≡_}
 use mathlib.Core.Bool.{Bool, _&&_, _||_}
 use mathlib.Core.List.{List}
-use Prim.Native.Nat.{ℕ, _+_}
+use Prim.Native.Nat.{ℕ}
 use lib.Dec.{eqb, ltb}
 use lib.ListN.{length}
 use Rattle.file_part.specs.declared.read.FaceId.{FaceId}
 use Rattle.file_part.specs.Part.{Part, partOf}
 use Rattle.solid_faces.specs.Faces.{Checked, firstPolygon}
-use Rattle.solid_faces.specs.Kept.{Faces}
+use Rattle.solid_faces.specs.Kept.{faceCells, Faces}
 
 -- ids as the Rust orders them: by feature, then by index
 unfoldable pub idBefore : FaceId → FaceId → Bool
@@ -26,4 +26,4 @@ faceBefore t g h = idBefore (idOf t g) (idOf t h)
 pub record KnownFaces (file faces : List ℕ) : Type 0 where
   pub checked : Checked file
   pub known : Faces (partOf file) faces
-  pub long : length faces ≡ partOf file .polygons + 1024
+  pub long : length faces ≡ faceCells (partOf file .polygons)

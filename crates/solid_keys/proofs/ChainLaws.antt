@@ -17,16 +17,13 @@ use Rattle.solid_keys.proofs.CellLaws.{Put, put-cell, keep-cell, put-af
 use Rattle.solid_keys.proofs.ColumnLaws.{side-cells-kept, slots-kept}
 
 -- one more cell of a column is as f says
-filled-more : (f old new : ℕ → ℕ) (i v : ℕ) → ((s : ℕ) → s < i → old s ≡ f s) → Put old i v new → v ≡ f i → (s : ℕ) → s < i + 1 → new s ≡ f s
-filled-more f old new i v h p e s m =
-    ⊎-elim
-    (λ d. rw d (p .there ∙ e))
-    (λ d. p .else s (λ g. omega arith) ∙ h s d)
-    (newest s i (omega arith))
+filled-more : (f old new : ℕ → ℕ) (i : ℕ) → ((s : ℕ) → s < i → old s ≡ f s) → new i ≡ f i → ((s : ℕ) → s < i → new s ≡ old s)
+    → (s : ℕ) → s < i + 1 → new s ≡ f s
+filled-more f old new i h there else s m = ⊎-elim (λ d. rw d there) (λ d. else s d ∙ h s d) (newest s i (omega arith))
 
 -- ---- one side more in the slots
 module _ (slots : ℕ → ℕ) (n : ℕ) where
-  heads-start : (head : ℕ → ℕ) → ((k : ℕ) → k < n → head k ≡ 0) → Heads slots n head 0
+  pub heads-start : (head : ℕ → ℕ) → ((k : ℕ) → k < n → head k ≡ 0) → Heads slots n head 0
   unfolding Heads above
   heads-start head h = λ k l. h k l
 
@@ -38,23 +35,25 @@ module _ (slots : ℕ → ℕ) (n : ℕ) where
   unfolding above
   other-slot i k e = rw (add-one, ne-eqb (slots i) k e)
 
-  heads-more : (head new : ℕ → ℕ) (i h : ℕ) → Heads slots n head i → h ≡ slots i → Put head h (i + 1) new → Heads slots n new (i + 1)
+  pub heads-more : (head new : ℕ → ℕ) (i h : ℕ) → Heads slots n head i → h ≡ slots i → new h ≡ i + 1
+      → ((k : ℕ) → k < n → (k ≡ h → ⊥) → new k ≡ head k) → Heads slots n new (i + 1)
   unfolding Heads
-  heads-more head new i h f e p =
+  heads-more head new i h f e there else =
       λ k b.
       ⊎-elim
-      (λ d. rw d (p .there ∙ own-slot i h (sym e)))
-      (λ d. p .else k d ∙ f k b ∙ other-slot i k (λ g. d (sym g ∙ sym e)))
+      (λ d. rw d (there ∙ own-slot i h (sym e)))
+      (λ d. else k b d ∙ f k b ∙ other-slot i k (λ g. d (sym g ∙ sym e)))
       (equal-or-not k h)
 
-  from-head : (i h : ℕ) (head : ℕ → ℕ) → Heads slots n head i → h ≡ slots i → h < n → head h ≡ above (λ u. eqb (slots u) (slots i)) i
+  pub from-head : (i h : ℕ) (head : ℕ → ℕ) → Heads slots n head i → h ≡ slots i → h < n → head h ≡ above (λ u. eqb (slots u) (slots i)) i
   unfolding Heads
   from-head i h head g e l = g h l ∙ ap (λ (k : ℕ). above (λ u. eqb (slots u) k) i) e
 
-  next-more : (next new : ℕ → ℕ) (i h : ℕ) (head : ℕ → ℕ) → Next slots next i → Heads slots n head i → h ≡ slots i → h < n
-      → Put next i (head h) new → Next slots new (i + 1)
+  pub next-more : (next new : ℕ → ℕ) (i h : ℕ) (head : ℕ → ℕ) → Next slots next i → Heads slots n head i → h ≡ slots i → h < n
+      → new i ≡ head h → ((s : ℕ) → s < i → new s ≡ next s) → Next slots new (i + 1)
   unfolding Next
-  next-more next new i h head f g e l p = filled-more (λ s. above (λ u. eqb (slots u) (slots s)) s) next new i (head h) f p (from-head i h head g e l)
+  next-more next new i h head f g e l there else =
+      filled-more (λ s. above (λ u. eqb (slots u) (slots s)) s) next new i f (there ∙ from-head i h head g e l) else
 
 -- ---- the columns
 pub record Linked (old mem : List ℕ) (n i : ℕ) : Type 0 where
@@ -132,11 +131,13 @@ module _ {old mem : List ℕ} {n s h : ℕ} (at : Slotted old mem n s h) where
               kept-set 4 old m2 4 h (s + 1)
               (kept-set 4 old m1 5 s (col mem 4 h) (kept-set 4 old mem 6 s p (w .kept) (omega arith) (omega arith)) (omega arith) (omega arith))
               (omega arith) (omega arith);
-          heads = heads-more (slot old n) n (col mem 4) (col m3 4) s h (w .heads) at-old put4;
-          next = next-more (slot old n) n (col mem 5) (col m3 5) s h (col mem 4) (w .next) (w .heads) at-old (at .slot-inside) put5;
+          heads = heads-more (slot old n) n (col mem 4) (col m3 4) s h (w .heads) at-old (put4 .there) (λ k b d. put4 .else k d);
+          next = next-more (slot old n) n (col mem 5) (col m3 5) s h (col mem 4) (w .next) (w .heads) at-old (at .slot-inside)
+              (put5 .there) (λ k l. put5 .else k (λ g. omega arith));
           prev =
-              filled-more (λ t. above (λ u. sideCells old u t) t) (col mem 6) (col m3 6) s p (w .prev) put6
-              (found ∙ ap (λ (f : ℕ → ℕ → Bool). above (λ u. f u s) s) (side-cells-kept old mem (w .kept)));
+              filled-more (λ t. above (λ u. sideCells old u t) t) (col mem 6) (col m3 6) s (w .prev)
+              (put6 .there ∙ found ∙ ap (λ (f : ℕ → ℕ → Bool). above (λ u. f u s) s) (side-cells-kept old mem (w .kept)))
+              (λ k l. put6 .else k (λ g. omega arith));
         }
 
 pub linked-all : (old mem : List ℕ) (n i : ℕ) → i ≡ n → Linked old mem n i → Before (sideCells old) (col mem 6) n

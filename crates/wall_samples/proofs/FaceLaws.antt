@@ -13,15 +13,17 @@ use Rattle.list_laws.proofs.Outside.{outside-none, outside-then, outside-wide}
 use Rattle.math.specs.Vector as vector
 use Rattle.file_part.specs.Part.{Part, partOf}
 use Rattle.file_part.proofs.PartLaws.{part-polygons}
-use Rattle.solid_faces.specs.Faces.{facesOf, faceArea}
-use Rattle.solid_faces.proofs.BodyLaws.{checked-readable, checked-faces}
+use Rattle.solid_faces.specs.Faces.{facesOf, nextPolygon, faceArea}
+use Rattle.solid_faces.proofs.BodyLaws.{checked-readable, checked-faces, three-vertices}
+use Rattle.solid_faces.proofs.FaceLaws.{Begins}
+use Rattle.solid_faces.proofs.ChainLaws.{next-rises}
 use Rattle.solid_sizes.proofs.Areas.{area-number}
 use Rattle.scratch.specs.declared.regions.Regions.{Regions}
 use Rattle.scratch.specs.Standing.{Standing}
 use Rattle.scratch.proofs.StandingLaws.{placed-polygons, standing-kept}
-use Rattle.scratch.proofs.WordsLaws.{face-at}
+use Rattle.scratch.proofs.WordsLaws.{begins-at, link-at}
 use Rattle.wall_starts.specs.Starts.{totalArea, wanted, facePolygons, orderedPolygons, stepOf}
-use Rattle.wall_starts.specs.Kept.{Total, Negated, NumbersFrom, AreaNumbers, Room, Ordered}
+use Rattle.wall_starts.specs.Kept.{Total, Negated, Along, AreaNumbers, Room, Ordered}
 use Rattle.wall_starts.proofs.KeptLaws.{falling-kept, ordered-place}
 use Rattle.wall_starts.proofs.OrderLaws.{ordered-length, ordered-each}
 use Rattle.wall_samples.specs.declared.cast.Reading.{Reading}
@@ -38,27 +40,41 @@ unfolding faceReadings
 face-picks t f order m want a b c = rw (a, b, c)
 
 module _ (s : List ℕ) (at : Regions) (words : List ℕ) (reals : List Float) (h : Ready s at words reals) where
-  pub order-room : Room words (at .faces) (at .order) (at .polygons)
+  polygons : at .polygons ≡ partOf s .polygons
+  polygons = placed-polygons s at (h .standing .placed)
+
+  link : (q : ℕ) → q < at .polygons → getD words (at .chain + q) 0 ≡ nextPolygon (partOf s) q
+  link q l = link-at (partOf s) at words q (h .standing .placed .laid) (h .standing .words-room) (h .standing .the-words) polygons l
+
+  pub order-room : Room words (at .chain) (at .order) (at .polygons)
   order-room =
       let laid = h .standing .placed .laid in
-      record { few = laid .few; apart = omega (arith, laid); inside = omega (arith, laid, h .standing .words-room) }
+      record {
+        few = laid .few;
+        rises = λ q l. omega (arith, link q l, next-rises (partOf s) q (omega (arith, l, polygons)));
+        apart = omega (arith, laid, three-vertices s (checked-readable s (h .standing .placed .checked)), h .standing .placed);
+        inside = omega (arith, laid, h .standing .words-room);
+      }
 
-  module _ (f n : ℕ) (after : List ℕ) (o : Ordered (part (at .falling) (at .thickness) reals) words after (at .faces) (at .order) (at .polygons) f n) where
-    polygons : at .polygons ≡ partOf s .polygons
-    polygons = placed-polygons s at (h .standing .placed)
+  module _ (f first n : ℕ) (after : List ℕ) (low : f < facesOf (partOf s)) (is : first ≡ getD words (at .firsts + f) 0)
+      (o : Ordered (part (at .falling) (at .thickness) reals) words after (at .chain) (at .order) (at .polygons) first n) where
+    begins : Begins (partOf s) (partOf s .polygons) f first
+    begins =
+        begins-at (partOf s) at words f first (h .standing .placed .laid) (h .standing .the-words) polygons low
+        (checked-faces s (h .standing .placed .checked)) is
 
-    numbers : NumbersFrom (partOf s) (at .polygons) words (at .faces)
-    numbers = record { each = λ q l. face-at (partOf s) at words q (h .standing .placed .laid) (h .standing .the-words) polygons l }
+    along : Along (partOf s) (at .polygons) words (at .chain) first
+    along = record { polygons = polygons; each = link; below = omega (arith, begins .below, polygons); new = begins .new }
 
     -- no area of an accepted part is a NaN
     areas : AreaNumbers (partOf s)
     areas = record { each = λ q l. area-number s (checked-readable s (h .standing .placed .checked)) q (omega (arith, l, part-polygons s)) }
 
     order-is : part (at .order) (at .order + n) after ≡ orderedPolygons (partOf s) f
-    order-is = o .is (partOf s) polygons numbers (h .falling) areas
+    order-is = o .is (partOf s) along (h .falling) areas ∙ ap (orderedPolygons (partOf s)) (begins .number)
 
     pub order-count : n ≡ length (facePolygons (partOf s) f)
-    order-count = o .count (partOf s) polygons numbers
+    order-count = o .count (partOf s) along ∙ ap (λ (g : ℕ). length (facePolygons (partOf s) g)) (begins .number)
 
     order-kept : Outside 0 (at .order) (at .kinds) words after
     order-kept = outside-wide 0 _ _ (at .order) (at .kinds) words after (omega arith) (omega (arith, h .standing .placed .laid)) (o .kept)
@@ -71,7 +87,8 @@ module _ (s : List ℕ) (at : Regions) (words : List ℕ) (reals : List Float) (
     pub order-listed : Listed at n after
     order-listed = record {
       each = λ i low.
-          let there = ordered-place _ words after _ _ _ f n o (partOf s) polygons numbers (h .falling) areas i low in
+          let there = ordered-place _ words after _ _ _ first n o (partOf s) along (h .falling) areas i low
+          ∙ ap (λ (g : ℕ). getD (orderedPolygons (partOf s) g) i 0) (begins .number) in
           omega (arith, there, ordered-each (partOf s) f i (omega (arith, low, order-count, ordered-length (partOf s) f)) .below, polygons);
     }
 

@@ -113,18 +113,19 @@ fn put_picks(
 // The readings of a face. How many there are then.
 fn put_face(file: &[u8], words: &mut [u32], reals: &mut [f64], at: Regions, turn: Turn) -> usize
     requires { ⌜ Ready (now file) at (now words) (now reals) ⌝ ∗ ⌜ turn .want ≡ wanted (partOf (now file)) (turn .face) ⌝ }
-    requires { ⌜ turn .before + length (facePolygons (partOf (now file)) (turn .face)) ≤ at .polygons ⌝ }
+    requires { ⌜ turn .face < facesOf (partOf (now file)) ⌝ ∗ ⌜ turn .before + length (facePolygons (partOf (now file)) (turn .face)) ≤ at .polygons ⌝ }
     ensures { λ r. ⌜ Added (partOf (now (file .entry))) at (at .kinds) (turn .before) (faceReadings (partOf (now (file .entry))) (turn .face)) (now (words .entry)) (now (words .exit)) (now (reals .entry)) (now (reals .exit)) r ⌝ }
 {
+    let first = wide(words[at.firsts + turn.face]);
     let falling = at.falling;
     let end = at.thickness;
     let n = face_order(
         words,
         &reals[falling..end],
-        at.faces,
+        at.chain,
         at.order,
         at.polygons,
-        turn.face,
+        first,
     );
     put_picks(file, words, reals, at, n, turn)
 }

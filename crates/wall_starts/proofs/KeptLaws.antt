@@ -1,26 +1,27 @@
 -- What the lent slices hold: the loops, one step each, and what they come to for a part.
 use mathlib.Core.Path.{_≡_, refl, sym, ap, _∙_, subst}
-use mathlib.Core.Bool.{Bool, true, false, cond}
+use mathlib.Core.Bool.{true}
 use mathlib.Core.List.{List, [], _∷_, _++_}
 use mathlib.Core.Logic.{_⊎_, inl, inr}
 use Prim.Native.Nat.{ℕ, suc, _+_, _-_, _≤_, _<_}
 use native.Mathlib.Omega.{arith}
 use native.Mathlib.Numerals.{add-one}
 use native.Mathlib.Nat.{le-antisymm}
-use lib.ListN.{length, getD, set}
+use lib.ListN.{length, getD, set, take, drop, length-set}
 use lib.Seq.{getD-set-same, getD-set-other}
 use lib.Ieee.{Float, binary64, add, nan, neg}
+use borrow.Author.Tests.{eq-eqb, ne-eqb}
 use Rattle.num_float.proofs.Tests.{lt-or-ge}
 use Rattle.list_laws.specs.Region.{part, Outside}
-use Rattle.list_laws.proofs.Regions.{part-length, part-place}
-use Rattle.list_laws.proofs.Outside.{outside-none, outside-then, outside-wide, outside-set}
+use Rattle.list_laws.proofs.Regions.{part-length, part-place, part-more}
+use Rattle.list_laws.proofs.Outside.{outside-none, outside-then, outside-wide, outside-set, outside-part}
 use Rattle.math.specs.Vector as vector
 use Rattle.file_part.specs.Part.{Part}
-use Rattle.solid_faces.specs.Faces.{faceArea}
-use Rattle.solid_faces.specs.Kept.{KeptAreas, FaceAreas}
-use Rattle.wall_starts.specs.Starts.{areasTo, totalArea, orderedPolygons}
-use Rattle.wall_starts.specs.Kept.{Total, KeptFalling, Negated, passing, keptAs, NumbersFrom, AreaNumbers, Room, Gathered, Ordered}
-use Rattle.wall_starts.proofs.PassingLaws.{snoc-length, snoc-before, snoc-last, passing-none, passing-yes, passing-no}
+use Rattle.solid_faces.specs.Faces.{isNew, faceNumber, faceArea}
+use Rattle.solid_faces.specs.Kept.{Chain, KeptAreas, FaceAreas}
+use Rattle.solid_faces.proofs.ChainLaws.{fold-first, OnFace, on-first, on-next, on-fold}
+use Rattle.wall_starts.specs.Starts.{areasTo, totalArea, polygonsTo, facePolygons, orderedPolygons}
+use Rattle.wall_starts.specs.Kept.{Total, KeptFalling, Negated, Along, AreaNumbers, Room, Gathered, Ordered}
 
 -- ---- the areas of the faces, added
 pub record TotalTo (l : List Float) (n : ℕ) (r : Float) : Type 0 where
@@ -92,89 +93,131 @@ falling-kept t old new areas falling n e e′ h r r′ inside k =
     }
 
 -- ---- the polygons of a face
-pub at-most-one : (l : List ℕ) (faces f q r : ℕ) → r ≡ cond (keptAs l faces f q) 1 0 → r ≤ 1
-at-most-one l faces f q r = go (keptAs l faces f q)
-  where
-    go : (b : Bool) → r ≡ cond b 1 0 → r ≤ 1
-    go true e = omega (arith, e)
-    go false e = omega (arith, e)
+-- on the way, at polygon q: the n before it stand from `order` on
+pub record GatheredTo (old new : List ℕ) (chain order p first q n : ℕ) : Type 0 where
+  pub most : n ≤ p
+  pub low : n ≤ q
+  pub below : (i : ℕ) → i < n → getD new (order + i) 0 < p
+  pub on : (t : Part) → Along t p old chain first → OnFace t (faceNumber t first) q
+  pub is : (t : Part) → Along t p old chain first → part order (order + n) new ≡ polygonsTo t (faceNumber t first) q
+  pub kept : Outside 0 order (order + n) old new
 
-pub gathered-none : (l : List ℕ) (faces order f : ℕ) → Gathered l l faces order f 0 0
-gathered-none l faces order f =
+-- a polygon of another face is not put
+polygons-still : (t : Part) (f q : ℕ) → (faceNumber t q ≡ f → ⊥) → polygonsTo t f (q + 1) ≡ polygonsTo t f q
+unfolding polygonsTo
+polygons-still t f q other = rw (add-one, ne-eqb (faceNumber t q) f other)
+
+polygons-more : (t : Part) (f q : ℕ) → faceNumber t q ≡ f → polygonsTo t f (q + 1) ≡ polygonsTo t f q ++ (q ∷ [])
+unfolding polygonsTo
+polygons-more t f q same = rw (add-one, eq-eqb (faceNumber t q) f same)
+
+polygons-first : (t : Part) (q : ℕ) → isNew t q ≡ true → polygonsTo t (faceNumber t q) q ≡ []
+unfolding polygonsTo
+polygons-first t q new = fold-first t (faceNumber t q) (polygonsTo t (faceNumber t q)) (polygons-still t (faceNumber t q)) q new refl
+
+part-none : (l : List ℕ) (order : ℕ) → part order (order + 0) l ≡ []
+part-none l order = let none : order + 0 - order ≡ 0 = omega arith in ap (λ (k : ℕ). take k (drop order l)) none
+
+pub gathered-none : (l : List ℕ) (chain order p first : ℕ) → GatheredTo l l chain order p first first 0
+gathered-none l chain order p first =
     record {
-      count = sym (ap length (passing-none (keptAs l faces f)));
       most = omega arith;
-      each = λ i h. absurd (omega (arith, h));
+      low = omega arith;
+      below = λ i h. absurd (omega (arith, h));
+      on = λ t a. on-first t first (omega (arith, a .below, a .polygons));
+      is = λ t a. part-none l order ∙ sym (polygons-first t first (a .new));
       kept = outside-none 0 _ _ l;
     }
 
--- the number kept for polygon q has not changed
-kept-same : (old new : List ℕ) (faces order f p q n : ℕ) → faces + p ≤ order → q < p → Gathered old new faces order f q n
-    → keptAs new faces f q ≡ keptAs old faces f q
-unfolding keptAs
-kept-same old new faces order f p q n apart low h = rw (h .kept .below (faces + q) (omega (arith, apart, low)))
+module _ (old new : List ℕ) (chain order p first q n : ℕ) (room : Room old chain order p) (low : q < p)
+    (h : GatheredTo old new chain order p first q n) where
+  abbrev next : List ℕ
+  next = set new (order + n) q
 
-module _ (old new : List ℕ) (faces order p f q n : ℕ) (room : Room old faces order p) (low : q < p) (h : Gathered old new faces order f q n) where
-  -- polygon q is of face f
-  taken : keptAs old faces f q ≡ true → Gathered old (set new (order + n) q) faces order f (q + 1) (n + 1)
-  taken is =
+  next-place : order + n < length new
+  next-place = omega (arith, room .inside, low, h .low, h .kept .long)
+
+  -- the links are as they were
+  link-kept : getD next (chain + q) 0 ≡ getD old (chain + q) 0
+  link-kept =
+      getD-set-other new (order + n) (chain + q) q 0 (λ at. omega (arith, at, room .apart, low))
+      ∙ h .kept .below (chain + q) (omega (arith, room .apart, low))
+
+  pub link-rises : q < getD next (chain + q) 0
+  link-rises = omega (arith, link-kept, room .rises q low)
+
+  gathered-below : (i : ℕ) → i < n + 1 → (i < n) ⊎ (n ≤ i) → getD next (order + i) 0 < p
+  gathered-below i l (inl before) =
+      omega (arith, getD-set-other new (order + n) (order + i) q 0 (λ at. omega (arith, at, before)), h .below i before)
+  gathered-below i l (inr after) =
+      let same : n ≡ i = omega (arith, l, after) in
+      subst (λ (j : ℕ). getD next (order + j) 0 < p) same (omega (arith, getD-set-same new (order + n) q 0 next-place, low))
+
+  -- the polygons put, and q after them
+  put-more : part order (order + (n + 1)) next ≡ part order (order + n) new ++ (q ∷ [])
+  put-more =
+      let far : order + (n + 1) ≡ (order + n) + 1 = omega arith in
+      let long : length next ≡ length new = length-set new (order + n) q in
+      ap (λ (k : ℕ). part order k next) far
+      ∙ part-more next 0 order (order + n) (omega arith) (omega (arith, next-place, long))
+      ∙ ap (λ (x : ℕ). part order (order + n) next ++ (x ∷ [])) (getD-set-same new (order + n) q 0 next-place)
+      ∙ ap (λ (xs : List ℕ). xs ++ (q ∷ []))
+      (outside-part 0 (order + n) ((order + n) + 1) order (order + n) new next (omega arith) (omega (arith, next-place))
+      (outside-set 0 (order + n) ((order + n) + 1) new (order + n) q (omega arith) (omega arith)))
+
+  module _ (t : Part) (a : Along t p old chain first) where
+    -- the chain as it is lent to others
+    links : Chain t (part chain (chain + p) old)
+    links =
+        record {
+          each = λ r l. part-place chain (chain + p) old 0 r (omega (arith, l, a .polygons)) ∙ a .each r (omega (arith, l, a .polygons));
+          long = omega (arith, a .polygons, part-length chain (chain + p) old (omega (arith, room .apart, room .inside)));
+        }
+
+    link-is : getD next (chain + q) 0 ≡ getD (part chain (chain + p) old) q 0
+    link-is = link-kept ∙ sym (part-place chain (chain + p) old 0 q (omega (arith, low)))
+
+    under : q < t .polygons
+    under = omega (arith, low, a .polygons)
+
+    more-on : OnFace t (faceNumber t first) (getD next (chain + q) 0)
+    more-on = subst (OnFace t (faceNumber t first)) (sym link-is) (on-next t (faceNumber t first) q _ links (h .on t a) under)
+
+    more-is : part order (order + (n + 1)) next ≡ polygonsTo t (faceNumber t first) (getD next (chain + q) 0)
+    more-is =
+        put-more ∙ ap (λ (xs : List ℕ). xs ++ (q ∷ [])) (h .is t a)
+        ∙ sym (polygons-more t (faceNumber t first) q (h .on t a .face under))
+        ∙ sym (on-fold t (faceNumber t first) q _ links (h .on t a) under (polygonsTo t (faceNumber t first)) (polygons-still t (faceNumber t first)))
+        ∙ ap (polygonsTo t (faceNumber t first)) (sym link-is)
+
+  pub gathered-more : GatheredTo old next chain order p first (getD next (chain + q) 0) (n + 1)
+  gathered-more =
       record {
-        count = ap (λ (k : ℕ). k + 1) (h .count) ∙ sym (ap length more ∙ snoc-length (passing (keptAs old faces f) q) q);
-        most = omega (arith, h .most);
-        each = λ i l. go i l (lt-or-ge i n) ∙ sym (ap (λ (xs : List ℕ). getD xs i 0) more);
+        most = omega (arith, h .low, low);
+        low = omega (arith, h .low, link-rises);
+        below = λ i l. gathered-below i l (lt-or-ge i n);
+        on = more-on;
+        is = more-is;
         kept = outside-more 0 order n old new q (h .kept);
       }
-    where
-      more : passing (keptAs old faces f) (q + 1) ≡ passing (keptAs old faces f) q ++ (q ∷ [])
-      more = passing-yes (keptAs old faces f) q is
 
-      here : order + n < length new
-      here = omega (arith, room .inside, low, h .most, h .kept .long)
-
-      go : (i : ℕ) → i < n + 1 → (i < n) ⊎ (n ≤ i) → getD (set new (order + n) q) (order + i) 0 ≡ getD (passing (keptAs old faces f) q ++ (q ∷ [])) i 0
-      go i l (inl before) =
-          getD-set-other new (order + n) (order + i) q 0 (λ at. omega (arith, at, before)) ∙ h .each i before
-          ∙ sym (snoc-before (passing (keptAs old faces f) q) q i (omega (arith, before, h .count)))
-      go i l (inr after) =
-          let same : n ≡ i = omega (arith, l, after) in
-          subst (λ (j : ℕ). getD (set new (order + n) q) (order + j) 0 ≡ getD (passing (keptAs old faces f) q ++ (q ∷ [])) j 0) same
-          (getD-set-same new (order + n) q 0 here ∙ sym (snoc-last (passing (keptAs old faces f) q) q n (h .count)))
-
-  -- it is not
-  left : keptAs old faces f q ≡ false → Gathered old new faces order f (q + 1) n
-  left other =
-      record {
-        count = h .count ∙ sym (ap length (passing-no (keptAs old faces f) q other));
-        most = omega (arith, h .most);
-        each = λ i l. h .each i l ∙ sym (ap (λ (xs : List ℕ). getD xs i 0) (passing-no (keptAs old faces f) q other));
-        kept = h .kept;
-      }
-
-  -- in the words of `note`
-  pub gathered-more : (r : ℕ) (next : List ℕ) → r ≡ cond (keptAs new faces f q) 1 0 → next ≡ cond (keptAs new faces f q) (set new (order + n) q) new
-      → Gathered old next faces order f (q + 1) (n + r)
-  gathered-more r next er en = go (keptAs old faces f q) refl
-    where
-      same : keptAs new faces f q ≡ keptAs old faces f q
-      same = kept-same old new faces order f p q n (room .apart) low h
-
-      go : (b : Bool) → keptAs old faces f q ≡ b → Gathered old next faces order f (q + 1) (n + r)
-      go true e =
-          let one : r ≡ 1 = er ∙ ap (λ (b : Bool). cond b 1 0) (same ∙ e) in
-          let list : next ≡ set new (order + n) q = en ∙ ap (λ (b : Bool). cond b (set new (order + n) q) new) (same ∙ e) in
-          rw (one, list) (taken e)
-      go false e =
-          let none : n + r ≡ n = omega (arith, er ∙ ap (λ (b : Bool). cond b 1 0) (same ∙ e)) in
-          let list : next ≡ new = en ∙ ap (λ (b : Bool). cond b (set new (order + n) q) new) (same ∙ e) in
-          rw (none, list) (left e)
-
-pub gathered-all : (old new : List ℕ) (faces order f q p n : ℕ) → q ≤ p → p ≤ q → Gathered old new faces order f q n → Gathered old new faces order f p n
-gathered-all old new faces order f q p n a b h = subst (λ (k : ℕ). Gathered old new faces order f k n) (le-antisymm a b) h
+pub gathered-all : (old new : List ℕ) (chain order p first q n : ℕ) → p ≤ q → GatheredTo old new chain order p first q n →
+    Gathered old new chain order p first n
+unfolding facePolygons
+gathered-all old new chain order p first q n done h =
+    record {
+      most = h .most;
+      below = h .below;
+      is = λ t a.
+          let end : q ≡ t .polygons = omega (arith, done, a .polygons, h .on t a .low) in
+          h .is t a ∙ ap (polygonsTo t (faceNumber t first)) end;
+      kept = h .kept;
+    }
 
 -- ---- the order of a face, as its callers use it
-module _ (keys : List Float) (old new : List ℕ) (faces order p f n : ℕ) (h : Ordered keys old new faces order p f n) where
+module _ (keys : List Float) (old new : List ℕ) (chain order p first n : ℕ) (h : Ordered keys old new chain order p first n) where
   -- the polygon at a place
-  pub ordered-place : (t : Part) → p ≡ t .polygons → NumbersFrom t p old faces → KeptFalling t p keys → AreaNumbers t → (i : ℕ) → i < n
-      → getD new (order + i) 0 ≡ getD (orderedPolygons t f) i 0
-  ordered-place t e numbers falling areas i l =
-      sym (part-place order (order + n) new 0 i (omega (arith, l))) ∙ ap (λ (xs : List ℕ). getD xs i 0) (h .is t e numbers falling areas)
+  pub ordered-place : (t : Part) → Along t p old chain first → KeptFalling t p keys → AreaNumbers t → (i : ℕ) → i < n
+      → getD new (order + i) 0 ≡ getD (orderedPolygons t (faceNumber t first)) i 0
+  ordered-place t along falling areas i l =
+      sym (part-place order (order + n) new 0 i (omega (arith, l))) ∙ ap (λ (xs : List ℕ). getD xs i 0) (h .is t along falling areas)

@@ -25,8 +25,8 @@ use Rattle.list_sort.proofs.Only.{rising-far}
 use Rattle.list_sort.proofs.InOrder.{in-order-long, in-order-same, in-order-rising}
 use Rattle.list_sort.proofs.Falling.{neg-lt, neg-nan}
 use Rattle.wall_starts.specs.Starts.{polygonsTo, facePolygons, fallingTo, orderedPolygons}
-use Rattle.wall_starts.specs.Kept.{passing, AreaNumbers, lengthsTo}
-use Rattle.wall_starts.proofs.PassingLaws.{passing-count, passing-each, passing-rises}
+use Rattle.wall_starts.specs.Kept.{AreaNumbers, lengthsTo}
+use Rattle.wall_starts.proofs.PassingLaws.{passing, passing-count, passing-each, passing-rises}
 
 -- ---- keys that agree on the numbers below p give one order
 -- all numbers of a list are below p

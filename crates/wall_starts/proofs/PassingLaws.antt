@@ -11,7 +11,11 @@ use lib.Seq.{getD-append-seam}
 use Rattle.num_float.proofs.Tests.{lt-or-ge}
 use Rattle.list_laws.specs.Below.{countBelow}
 use Rattle.list_laws.proofs.Count.{count-none, count-more, count-same}
-use Rattle.wall_starts.specs.Kept.{passing}
+
+-- the numbers below n that pass a test, rising
+unfoldable pub passing : (ℕ → Bool) → ℕ → List ℕ
+passing test zero = []
+passing test (suc n) = cond (test n) (passing test n ++ (n ∷ [])) (passing test n)
 
 -- ---- a number more at the end of a list
 pub snoc-length : (xs : List ℕ) (x : ℕ) → length (xs ++ (x ∷ [])) ≡ length xs + 1
@@ -108,12 +112,3 @@ passing-rises test (suc n) i j h l =
     go false e before low =
         subst (λ (xs : List ℕ). getD xs i 0 < getD xs j 0) (sym (passing-no test n e))
         (before (omega (arith, low, ap length (passing-no test n e))))
-
--- tests that agree below n
-pub passing-same : (a b : ℕ → Bool) (n : ℕ) → ((q : ℕ) → q < n → a q ≡ b q) → passing a n ≡ passing b n
-passing-same a b zero each = passing-none a ∙ sym (passing-none b)
-passing-same a b (suc n) each =
-    passing-suc a n
-    ∙ ap (λ (t : Bool). cond t (passing a n ++ (n ∷ [])) (passing a n)) (each n (omega arith))
-    ∙ ap (λ (xs : List ℕ). cond (b n) (xs ++ (n ∷ [])) xs) (passing-same a b n (λ q l. each q (omega (arith, l))))
-    ∙ sym (passing-suc b n)

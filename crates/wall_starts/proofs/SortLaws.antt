@@ -4,7 +4,6 @@ use mathlib.Core.Bool.{false}
 use mathlib.Core.List.{List}
 use Prim.Native.Nat.{ℕ, _+_, _*_, _-_, _≤_, _<_}
 use native.Mathlib.Omega.{arith}
-use lib.Dec.{eqb}
 use lib.ListN.{length, getD, take}
 use lib.Seq.{ext-getD, getD-take, length-take-le}
 use lib.Ieee.{Float, isNan}
@@ -13,16 +12,16 @@ use Rattle.list_laws.specs.Region.{part}
 use Rattle.list_laws.proofs.Regions.{part-length, put-length, part-place, put-inside}
 use Rattle.list_laws.proofs.Outside.{outside-then, outside-wide, outside-put}
 use Rattle.file_part.specs.Part.{Part}
+use Rattle.solid_faces.specs.Faces.{faceNumber}
 use Rattle.list_sort.specs.Sorted.{keyOf, Numbered, NoNan, SortedBy, inOrder}
 use Rattle.list_sort.proofs.InOrder.{sorted-is}
 use Rattle.list_sort.proofs.Falling.{neg-nan}
 use Rattle.wall_starts.specs.Starts.{facePolygons, fallingTo, orderedPolygons}
-use Rattle.wall_starts.specs.Kept.{passing, keptAs, NumbersFrom, KeptFalling, AreaNumbers, Room, Gathered, Ordered}
-use Rattle.wall_starts.proofs.PassingLaws.{passing-each, passing-same}
-use Rattle.wall_starts.proofs.OrderLaws.{isOf, polygons-are, face-each, falling-at, in-order-keys}
+use Rattle.wall_starts.specs.Kept.{Along, KeptFalling, AreaNumbers, Room, Gathered, Ordered}
+use Rattle.wall_starts.proofs.OrderLaws.{face-each, falling-at, in-order-keys}
 
-module _ (keys : List Float) (old mid : List ℕ) (faces order p f n : ℕ) (room : Room old faces order p) (inside : p ≤ length keys)
-    (g : Gathered old mid faces order f p n) where
+module _ (keys : List Float) (old mid : List ℕ) (chain order p first n : ℕ) (room : Room old chain order p) (inside : p ≤ length keys)
+    (g : Gathered old mid chain order p first n) where
   -- the part that is lent
   abbrev lent : List ℕ
   lent = part order (order + 2 * n) mid
@@ -33,33 +32,34 @@ module _ (keys : List Float) (old mid : List ℕ) (faces order p f n : ℕ) (roo
   pub lent-length : length lent ≡ 2 * n
   lent-length = part-length order (order + 2 * n) mid end-inside ∙ (omega arith)
 
-  lent-at : (i : ℕ) → i < n → getD lent i 0 ≡ getD (passing (keptAs old faces f) p) i 0
-  lent-at i l = part-place order (order + 2 * n) mid 0 i (omega (arith, l)) ∙ g .each i l
-
   lent-below : (i : ℕ) → i < n → getD lent i 0 < p
-  lent-below i l = omega (arith, lent-at i l, passing-each (keptAs old faces f) p i (omega (arith, l, g .count)) .below)
+  lent-below i l = omega (arith, part-place order (order + 2 * n) mid 0 i (omega (arith, l)), g .below i l)
 
   pub lent-numbered : Numbered keys lent 0 n
   lent-numbered = record { has = λ i a l. omega (arith, lent-below i l, inside) }
 
-  take-lent : take n lent ≡ passing (keptAs old faces f) p
+  -- the polygons stand first in it
+  front-length : length (part order (order + n) mid) ≡ n
+  front-length = part-length order (order + n) mid (omega (arith, end-inside)) ∙ (omega arith)
+
+  take-lent : take n lent ≡ part order (order + n) mid
   take-lent =
       let long : length (take n lent) ≡ n = length-take-le n lent (omega (arith, lent-length)) in
-      ext-getD 0 (take n lent) (passing (keptAs old faces f) p) (long ∙ g .count)
+      ext-getD 0 (take n lent) (part order (order + n) mid) (long ∙ sym front-length)
       (λ i h.
       let l : i < n = omega (arith, h, long) in
-      getD-take n lent i 0 l ∙ lent-at i l)
+      getD-take n lent i 0 l ∙ part-place order (order + 2 * n) mid 0 i (omega (arith, l)) ∙ sym (part-place order (order + n) mid 0 i (omega (arith, l))))
 
   -- the list of a part that the slice holds
-  module _ (t : Part) (e : p ≡ t .polygons) (numbers : NumbersFrom t p old faces) where
-    passing-face : passing (keptAs old faces f) p ≡ facePolygons t f
-    unfolding keptAs
-    passing-face =
-        passing-same (keptAs old faces f) (isOf t f) p (λ q l. ap (λ (k : ℕ). eqb k f) (numbers .each q l))
-        ∙ ap (passing (isOf t f)) e ∙ sym (polygons-are t f)
+  module _ (t : Part) (along : Along t p old chain first) where
+    abbrev f : ℕ
+    f = faceNumber t first
+
+    e : p ≡ t .polygons
+    e = along .polygons
 
     count-is : n ≡ length (facePolygons t f)
-    count-is = g .count ∙ ap length passing-face
+    count-is = sym front-length ∙ ap length (g .is t along)
 
     module _ (falling : KeptFalling t p keys) (areas : AreaNumbers t) where
       plain : NoNan keys lent n
@@ -81,7 +81,7 @@ module _ (keys : List Float) (old mid : List ℕ) (faces order p f n : ℕ) (roo
       sorted-list : (y : List ℕ) → length y ≡ length lent → SortedBy keys n lent y → take n y ≡ orderedPolygons t f
       sorted-list y long sorted =
           sorted-is keys n lent y sorted plain (omega (arith, lent-length)) (omega (arith, lent-length, long))
-          ∙ ap (inOrder keys) (take-lent ∙ passing-face) ∙ order-is
+          ∙ ap (inOrder keys) (take-lent ∙ g .is t along) ∙ order-is
 
   -- what comes back
   module _ (y : List ℕ) (long : length y ≡ length lent) (sorted : SortedBy keys n lent y) where
@@ -106,12 +106,12 @@ module _ (keys : List Float) (old mid : List ℕ) (faces order p f n : ℕ) (roo
         ∙ put-inside order (order + 2 * n - order) mid y 0 (omega (arith, end-inside)) (order + i) (omega arith) (omega (arith, l, long, lent-length))
         ∙ ap (λ (k : ℕ). getD y k 0) place ∙ sym (getD-take n y i 0 l))
 
-    pub ordered-all : Ordered keys old new faces order p f n
+    pub ordered-all : Ordered keys old new chain order p first n
     ordered-all =
         record {
           most = g .most;
           count = count-is;
-          is = λ t e numbers falling areas. front ∙ sorted-list t e numbers falling areas y long sorted;
+          is = λ t along falling areas. front ∙ sorted-list t along falling areas y long sorted;
           kept =
               outside-then 0 _ _ old mid new (outside-wide 0 _ _ order (order + 2 * p) old mid (omega arith) (omega (arith, g .most)) (g .kept))
               (outside-wide 0 _ _ order (order + 2 * p) mid new (omega arith) (omega (arith, g .most)) (outside-put 0 order (order + 2 * n) mid y (omega arith) end-inside y-long));

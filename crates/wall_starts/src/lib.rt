@@ -1,10 +1,9 @@
 // Which polygons of a face the rays of `thickness_samples` start from: how many rays a face gets, and the order of its polygons.
 ghost use mathlib.Core.Path.{_≡_};
-ghost use mathlib.Core.Bool.{cond};
-ghost use Prim.Native.Nat.{_+_, _≤_, _<_};
-ghost use lib.ListN.{length, set};
+ghost use Prim.Native.Nat.{_+_, _≤_};
+ghost use lib.ListN.{length};
 ghost use Rattle.wall_starts.specs.Starts as starts;
-ghost use Rattle.wall_starts.specs.Kept.{Total, Negated, keptAs, Room, Gathered, Ordered};
+ghost use Rattle.wall_starts.specs.Kept.{Total, Negated, Room, Gathered, Ordered};
 use list_cells::wide;
 use list_sort::sort;
 use num_real::rounding::ceil_usize;
@@ -49,47 +48,36 @@ pub fn put_falling(reals: &mut [f64], areas: usize, falling: usize, n: usize)
     }
 }
 
-// Puts polygon q at a place, if the number kept for it is f; how many were put, 0 or 1.
-fn note(words: &mut [u32], faces: usize, place: usize, f: usize, q: usize) -> usize
-    requires { ⌜ faces + q < length (now words) ⌝ ∗ ⌜ place < length (now words) ⌝ ∗ ⌜ q ≤ 4096 ⌝ }
-    ensures { λ r. ⌜ r ≡ cond (keptAs (now (words .entry)) faces f q) 1 0 ⌝ }
-    ensures { λ r. ⌜ now (words .exit) ≡ cond (keptAs (now (words .entry)) faces f q) (set (now (words .entry)) place q) (now (words .entry)) ⌝ }
-{
-    if wide(words[faces + q]) == f {
-        words[place] = q as u32;
-        return 1;
-    }
-    0
-}
-
-// The polygons of face f, in rising order, from `order` on; how many there are.
-fn gather(words: &mut [u32], faces: usize, order: usize, p: usize, f: usize) -> usize
-    requires { ⌜ Room (now words) faces order p ⌝ }
-    ensures { λ n. ⌜ Gathered (now (words .entry)) (now (words .exit)) faces order f p n ⌝ }
+// The polygons of the face that begins with polygon `first`, in rising order, from `order` on; how many there are. For each polygon the next
+// one of its face stands from `chain` on.
+fn gather(words: &mut [u32], chain: usize, order: usize, p: usize, first: usize) -> usize
+    requires { ⌜ Room (now words) chain order p ⌝ }
+    ensures { λ n. ⌜ Gathered (now (words .entry)) (now (words .exit)) chain order p first n ⌝ }
 {
     let mut n: usize = 0;
-    let mut q: usize = 0;
+    let mut q = first;
     while q < p {
-        n += note(words, faces, order + n, f, q);
-        q += 1;
+        words[order + n] = q as u32;
+        n += 1;
+        q = wide(words[chain + q]);
     }
     n
 }
 
-// The polygons of face f by falling area, the lower number first where areas are equal, from `order` on; how many there are. The number of
-// each polygon's face stands from `faces` on, and keys are the areas negated. The cells after the polygons, 2p in all, are work.
+// The same polygons by falling area, the lower number first where areas are equal. Keys are the areas negated. The cells after the polygons,
+// 2p in all, are work.
 pub fn face_order(
     words: &mut [u32],
     keys: &[f64],
-    faces: usize,
+    chain: usize,
     order: usize,
     p: usize,
-    f: usize,
+    first: usize,
 ) -> usize
-    requires { ⌜ Room (now words) faces order p ⌝ ∗ ⌜ p ≤ length (now keys) ⌝ }
-    ensures { λ n. ⌜ Ordered (now (keys .entry)) (now (words .entry)) (now (words .exit)) faces order p f n ⌝ }
+    requires { ⌜ Room (now words) chain order p ⌝ ∗ ⌜ p ≤ length (now keys) ⌝ }
+    ensures { λ n. ⌜ Ordered (now (keys .entry)) (now (words .entry)) (now (words .exit)) chain order p first n ⌝ }
 {
-    let n = gather(words, faces, order, p, f);
+    let n = gather(words, chain, order, p, first);
     let end = order + 2 * n;
     sort(keys, &mut words[order..end], n);
     n

@@ -1,60 +1,66 @@
 -- `wall_starts::gather` meets its contract.
 use borrow.Author.Needs.{needs}
-use lib.ListN.{length}
-use Prim.Native.Nat.{_+_, _-_, _≤_, _<_}
+use Prim.Native.Nat.{_-_}
+use lib.ListN.{length-set}
+use Rattle.wall_starts.proofs.KeptLaws.{GatheredTo, gathered-none, link-rises, gathered-more, gathered-all}
 use native.Mathlib.Omega.{arith}
-use Rattle.wall_starts.specs.Kept.{Gathered}
-use Rattle.wall_starts.proofs.KeptLaws.{at-most-one, gathered-none, gathered-more, gathered-all}
 use Rattle.wall_starts.proofs.gather.Statement.{statement}
 use Rattle.wall_starts.proofs.gather.Tie as tie
 
 abbrev Inv-loop : tie.InvT-loop
-Inv-loop words₀ faces order p f n₀ q₀ words n q = (q ≤ p) × Gathered words₀ words faces order f q n
+Inv-loop words₀ chain order p first n₀ q₀ words n q = GatheredTo words₀ words chain order p first q n
 
 abbrev μ-loop : tie.MeasureT-loop
-μ-loop words₀ faces order p f n₀ q₀ words n q = p - q
+μ-loop words₀ chain order p first n₀ q₀ words n q = p - q
 
--- the places that a place comes from
+-- what the function was called with
 abbrev start : tie.In-loop Inv-loop μ-loop → tie.Start Inv-loop μ-loop
 start c = c .before .before .before
 
--- there is room for one polygon more
-room : (c : tie.In-loop Inv-loop μ-loop) → start c .args .order + c .before .loop .n < length (c .before .loop .words)
-room c =
-    let inv = c .before .loop .inv .1 in
-    omega (arith, start c .pre .inside, c .loop-test .taken, inv .most, inv .kept .long)
-
 loop-holds : tie.Need-loop-holds Inv-loop μ-loop
-loop-holds c = (omega arith, gathered-none _ _ _ _)
+loop-holds c = gathered-none _ _ _ _ _
 
-add-note : tie.Need-add-note Inv-loop μ-loop
-add-note c = omega (arith, room (c .before))
+cast-words : tie.Need-cast-words Inv-loop μ-loop
+cast-words c = omega (arith, start c .pre .few, c .loop-test .taken)
 
-note-requires : tie.Need-note-requires Inv-loop μ-loop
-note-requires c κs =
-    let i = c .before in
-    let pre = start i .pre in
-    (omega (arith, room i, pre .apart, i .loop-test .taken), (room i, omega (arith, pre .few, i .loop-test .taken)))
+add-words : tie.Need-add-words Inv-loop μ-loop
+add-words c = omega (arith, start c .pre .inside, start c .pre .apart, c .loop-test .taken, c .before .loop .inv .low, c .before .loop .inv .kept .long)
+
+mul-words : tie.Need-mul-words Inv-loop μ-loop
+mul-words c = omega (arith, start c .pre .inside, start c .pre .apart, c .loop-test .taken, c .before .loop .inv .low, c .before .loop .inv .kept .long)
+
+slice-write-words : tie.Need-slice-write-words Inv-loop μ-loop
+slice-write-words c = omega (arith, start c .pre .inside, start c .pre .apart, c .loop-test .taken, c .before .loop .inv .low, c .before .loop .inv .kept .long)
 
 add-n : tie.Need-add-n Inv-loop μ-loop
-add-n c =
-    let i = c .before .before .before .before in
-    omega (arith, room i, at-most-one _ _ _ _ _ (c .before .before .note .ensures .0))
+add-n c = omega (arith, start c .pre .inside, start c .pre .apart, c .loop-test .taken, c .before .loop .inv .low, c .before .loop .inv .kept .long)
+
+add-wide : tie.Need-add-wide Inv-loop μ-loop
+add-wide c = omega (arith, start c .pre .inside, start c .pre .apart, c .loop-test .taken, c .before .loop .inv .low, c .before .loop .inv .kept .long)
+
+mul-wide : tie.Need-mul-wide Inv-loop μ-loop
+mul-wide c = omega (arith, start c .pre .inside, start c .pre .apart, c .loop-test .taken, c .before .loop .inv .low, c .before .loop .inv .kept .long)
+
+slice-read-wide : tie.Need-slice-read-wide Inv-loop μ-loop
+slice-read-wide c =
+    let i = c .before in
+    simp length-set (omega (arith, start i .pre .inside, start i .pre .apart, i .loop-test .taken, i .before .loop .inv .low, i .before .loop .inv .kept .long))
+
+loop-less : tie.Need-loop-less Inv-loop μ-loop
+loop-less c =
+    let i = c .before .before in
+    omega (arith, i .loop-test .taken, c .wide .ensures, link-rises _ _ _ _ _ _ _ _ (start i .pre) (i .loop-test .taken) (i .before .loop .inv))
 
 loop-again : tie.Need-loop-again Inv-loop μ-loop
 loop-again c =
-    let i = c .before .before .before .before in
-    let note = c .before .before .note in (
-      omega (arith, i .loop-test .taken),
-      gathered-more _ _ _ _ _ _ _ _ (start i .pre) (i .loop-test .taken) (i .before .loop .inv .1) _ _
-          (note .ensures .0) (note .ensures .1),
-    )
+    let i = c .before .before in
+    rw (c .wide .ensures) (gathered-more _ _ _ _ _ _ _ _ (start i .pre) (i .loop-test .taken) (i .before .loop .inv))
 
 same-length : tie.Need-same-length Inv-loop μ-loop
-same-length c = c .before .loop .inv .1 .kept .long
+same-length c = c .before .loop .inv .kept .long
 
 returns : tie.Need-returns Inv-loop μ-loop
-returns c = gathered-all _ _ _ _ _ _ _ _ (c .before .loop .inv .0) (c .loop-test .left) (c .before .loop .inv .1)
+returns c = gathered-all _ _ _ _ _ _ _ _ (c .loop-test .left) (c .before .loop .inv)
 
 pub gather-spec : {M : Type 1} → statement M
 gather-spec =
@@ -63,11 +69,16 @@ gather-spec =
     Inv-loop
     μ-loop
     loop-holds
-    add-note
-    note-requires
+    cast-words
+    add-words
+    mul-words
+    slice-write-words
     add-n
-    (λ c. search needs)
-    (λ c. search needs)
+    add-wide
+    mul-wide
+    slice-read-wide
+    (λ c κs. search needs)
+    loop-less
     loop-again
     same-length
     returns)

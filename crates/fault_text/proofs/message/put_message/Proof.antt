@@ -1,59 +1,30 @@
--- `fault_text::message::put_message` meets its contract: a case for each kind.
+-- `fault_text::message::put_message` meets its contract: a case for each process.
 use borrow.Author.Needs.{needs}
-use Rattle.num_text.proofs.PutLaws.{put-same, put-none}
+use Rattle.num_text.proofs.PutLaws.{put-same}
 use Rattle.file_part.specs.Part.{partOf}
-use Rattle.fault_text.proofs.TextLaws.{text-thin-wall, text-small-hole, text-deep-hole-max, text-deep-hole-standard, text-tight-inside-radius, text-deep-inside-corner, text-sharp-inside-corner, text-none}
-use native.Mathlib.Omega.{arith}
+use Rattle.fault_text.proofs.TextLaws.{text-machining, text-sheet, text-printing}
 use Rattle.fault_text.proofs.message.put_message.Statement.{statement}
 use Rattle.fault_text.proofs.message.put_message.Tie as tie
 
 returns : tie.Need-returns
-returns c = put-same _ _ (text-thin-wall (partOf (c .before .before .before .before .before .before .before .args .file .now)) (c .before .before .before .before .before .before .before .args .row) (c .before .before .before .before .match .keys1)) (c .before .before .put-thin-wall .ensures)
+returns c = put-same _ _ (text-machining (partOf (c .before .before .before .before .before .before .before .before .args .file .now)) (c .before .before .before .before .before .before .before .before .args .row) (c .before .before .before .before .if1 .taken)) (c .before .before .put-machining .ensures)
 
 returns-2 : tie.Need-returns-2
-returns-2 c = put-same _ _ (text-small-hole (partOf (c .before .before .before .before .before .before .before .args .file .now)) (c .before .before .before .before .before .before .before .args .row) (c .before .before .before .before .match .keys2)) (c .before .before .put-small-hole .ensures)
+returns-2 c = put-same _ _ (text-sheet (partOf (c .before .before .before .before .before .before .before .before .before .before .args .file .now)) (c .before .before .before .before .before .before .before .before .before .before .args .row) (c .before .before .before .before .before .before .if1 .left) (c .before .before .before .before .if2 .taken)) (c .before .before .put-sheet-metal .ensures)
 
 returns-3 : tie.Need-returns-3
-returns-3 c = put-same _ _ (text-deep-hole-max (partOf (c .before .before .before .before .before .before .before .args .file .now)) (c .before .before .before .before .before .before .before .args .row) (c .before .before .before .before .match .keys3)) (c .before .before .put-deep-hole-max .ensures)
-
-returns-4 : tie.Need-returns-4
-returns-4 c = put-same _ _ (text-deep-hole-standard (partOf (c .before .before .before .before .before .before .before .args .file .now)) (c .before .before .before .before .before .before .before .args .row) (c .before .before .before .before .match .keys4)) (c .before .before .put-deep-hole-standard .ensures)
-
-returns-5 : tie.Need-returns-5
-returns-5 c = put-same _ _ (text-tight-inside-radius (partOf (c .before .before .before .before .before .before .before .args .file .now)) (c .before .before .before .before .before .before .before .args .row) (c .before .before .before .before .match .keys5)) (c .before .before .put-tight-inside-radius .ensures)
-
-returns-6 : tie.Need-returns-6
-returns-6 c = put-same _ _ (text-deep-inside-corner (partOf (c .before .before .before .before .before .before .before .args .file .now)) (c .before .before .before .before .before .before .before .args .row) (c .before .before .before .before .match .keys6)) (c .before .before .put-deep-inside-corner .ensures)
-
-returns-7 : tie.Need-returns-7
-returns-7 c = put-same _ _ (text-sharp-inside-corner (partOf (c .before .before .before .before .before .before .before .args .file .now)) (c .before .before .before .before .before .before .before .args .row) (c .before .before .before .before .match .keys7)) (c .before .before .put-sharp-inside-corner .ensures)
-
-returns-8 : tie.Need-returns-8
-returns-8 c = let rest = c .match .rest in put-same _ _ (text-none (partOf (c .before .before .before .args .file .now)) (c .before .before .before .args .row) (rest .0 .0 .0 .0 .0 .0 .1) (rest .0 .0 .0 .0 .0 .1) (rest .0 .0 .0 .0 .1) (rest .0 .0 .0 .1) (rest .0 .0 .1) (rest .0 .1) (rest .1)) (put-none _ _ (omega arith))
+returns-3 c = put-same _ _ (text-printing (partOf (c .before .before .before .before .before .before .before .before .before .before .args .file .now)) (c .before .before .before .before .before .before .before .before .before .before .args .row) (c .before .before .before .before .before .before .if1 .left) (c .before .before .before .before .if2 .left)) (c .before .before .put-printing .ensures)
 
 pub put-message-spec : {M : Type 1} → statement M
 put-message-spec =
     tie.close
     (tie.spec
     (λ c κs. search needs)
-    (λ c κs. search needs)
-    (λ c κs. search needs)
-    (λ c κs. search needs)
-    (λ c κs. search needs)
-    (λ c κs. search needs)
-    (λ c κs. search needs)
     (λ c. search needs)
     returns
+    (λ c κs. search needs)
     (λ c. search needs)
     returns-2
+    (λ c κs. search needs)
     (λ c. search needs)
-    returns-3
-    (λ c. search needs)
-    returns-4
-    (λ c. search needs)
-    returns-5
-    (λ c. search needs)
-    returns-6
-    (λ c. search needs)
-    returns-7
-    returns-8)
+    returns-3)

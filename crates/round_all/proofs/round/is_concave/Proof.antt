@@ -6,7 +6,7 @@ use Rattle.round_all.proofs.round.is_concave.Statement.{statement}
 use Rattle.round_all.proofs.round.is_concave.Tie as tie
 
 face-votes-requires : tie.Need-face-votes-requires
-face-votes-requires c κs = (c .before .before .before .before .pre .0, (c .before .before .before .before .pre .1 .0, (c .before .before .before .before .pre .1 .1 .0, c .before .before .before .before .pre .1 .1 .1)))
+face-votes-requires c κs = c .before .before .before .before .pre
 
 returns : tie.Need-returns
 returns c = ap (λ (x : Float). lt x vector.zero) (c .face-votes .ensures)

@@ -10,4 +10,9 @@ returns c = (c .goes-round .ensures ∙ ap goesRound (c .before .before .before 
 
 pub is-bore-spec : {M : Type 1} → statement M
 is-bore-spec =
-    tie.close (tie.spec (λ c κs. search needs) (λ c κs. search needs) (λ c. search needs) returns)
+    tie.close
+    (tie.spec
+    (λ c κs. search needs)
+    (λ c κs. search needs)
+    (λ c. search needs)
+    returns)

@@ -2,14 +2,19 @@
 use borrow.Author.Needs.{needs}
 use mathlib.Core.Path.{_≡_, _∙_}
 use mathlib.Core.List.{List}
-use Prim.Native.Nat.{ℕ, _-_}
+use Prim.Native.Nat.{ℕ, _-_, _≤_}
 use lib.ListN.{length}
 use lib.Seq.{length-take-le}
 use borrow.Rule.Slice.PartMut.{putMid}
+use denote.Ref.{now}
+use Rattle.list_laws.specs.Region.{Outside}
 use Rattle.list_laws.proofs.Regions.{part-length, put-length}
+use Rattle.list_laws.proofs.Outside.{outside-then, outside-wide}
+use Rattle.file_part.specs.Part.{partOf}
 use Rattle.solid_faces.proofs.BodyLaws.{checked-readable}
+use Rattle.scratch.specs.Work.{WordsBefore}
 use Rattle.scratch.proofs.StandingLaws.{placed-polygons, placed-vertices}
-use Rattle.scratch.proofs.WordsLaws.{words-put}
+use Rattle.scratch.proofs.WordsLaws.{words-put, words-chain}
 use native.Mathlib.Omega.{arith}
 use Rattle.scratch.proofs.body.put_words.Statement.{statement}
 use Rattle.scratch.proofs.body.put_words.Tie as tie
@@ -79,12 +84,37 @@ part-faces-end c = omega (arith, c .before .before .before .before .before .befo
 faces-requires : tie.Need-faces-requires
 faces-requires c κs = (c .before .before .before .before .before .before .before .before .before .before .before .pre .0 .checked, part-length (c .before .before .before .before .before .before .before .before .before .before .before .args .at .faces) (c .before .before .before .before .before .before .before .before .before .before .before .args .at .readings) (two (c .before .before .before)) (omega (arith, c .before .before .before .before .before .before .before .before .before .before .before .pre .0 .laid, c .before .before .before .before .before .before .before .before .before .before .before .pre .1, two-long (c .before .before .before))) ∙ omega (arith, c .before .before .before .before .before .before .before .before .before .before .before .pre .0 .laid, c .before .before .before .before .before .before .before .before .before .before .before .pre .0))
 
+-- and after the faces
+abbrev start : tie.After-faces → tie.Start
+start c = c .before .before .before .before .before .before .before .before .before .before .before .before
+
+faces-long : (c : tie.After-faces) → length (c .faces .last .1 .0) ≡ start c .args .at .readings - start c .args .at .faces
+faces-long c = c .faces .kept .1 .0 ∙ part-length (start c .args .at .faces) (start c .args .at .readings) (two (c .before .before .before .before)) (omega (arith, start c .pre .0 .laid, start c .pre .1, two-long (c .before .before .before .before)))
+
+abbrev three : (c : tie.After-faces) → List ℕ
+three c = putMid (start c .args .at .faces) (start c .args .at .readings - start c .args .at .faces) (two (c .before .before .before .before)) (c .faces .last .1 .0)
+
+put : (c : tie.After-faces) → WordsBefore (partOf (now (start c .args .file))) (start c .args .at) (three c) × Outside 0 0 (start c .args .at .readings) (start c .args .words .now) (three c)
+put c =
+    let y = c .before .before .before .before in
+    let x = y .before .before .before .before in
+    let done = words-put (start c .args .at) (start c .pre .0 .laid) (start c .args .words .now) _ _ (c .faces .last .1 .0) (start c .pre .1) (bodies-long x) (sides-long y) (faces-long c) in
+    (done .0 _ (placed-polygons _ _ (start c .pre .0)) (placed-vertices _ _ (start c .pre .0)) (x .bodies .ensures) (y .shared-segments .ensures) (c .faces .ensures .1 .0), done .1)
+
+put-chain-requires : tie.Need-put-chain-requires
+put-chain-requires c κs =
+    let f = c .before .before .before in
+    (start f .pre .0, (omega (arith, start f .pre .1, put f .1 .long), put f .0 .faces))
+
 returns : tie.Need-returns
 returns c =
-    let y = c .before .before .before .before .before .before in
-    let lz = c .before .before .faces .kept .1 .0 ∙ part-length (c .before .before .before .before .before .before .before .before .before .before .before .before .before .before .args .at .faces) (c .before .before .before .before .before .before .before .before .before .before .before .before .before .before .args .at .readings) (two y) (omega (arith, c .before .before .before .before .before .before .before .before .before .before .before .before .before .before .pre .0 .laid, c .before .before .before .before .before .before .before .before .before .before .before .before .before .before .pre .1, two-long y)) in
-    let put = words-put (c .before .before .before .before .before .before .before .before .before .before .before .before .before .before .args .at) (c .before .before .before .before .before .before .before .before .before .before .before .before .before .before .pre .0 .laid) (c .before .before .before .before .before .before .before .before .before .before .before .before .before .before .args .words .now) _ _ (c .before .before .faces .last .1 .0) (c .before .before .before .before .before .before .before .before .before .before .before .before .before .before .pre .1) (bodies-long (c .before .before .before .before .before .before .before .before .before .before)) (sides-long y) lz in
-    (c .before .before .faces .ensures .0, (put .0 _ (placed-polygons _ _ (c .before .before .before .before .before .before .before .before .before .before .before .before .before .before .pre .0)) (placed-vertices _ _ (c .before .before .before .before .before .before .before .before .before .before .before .before .before .before .pre .0)) (c .before .before .before .before .before .before .before .before .before .before .bodies .ensures) (c .before .before .before .before .before .before .shared-segments .ensures) (c .before .before .faces .ensures .1 .0), put .1))
+    let f = c .before .before .before .before .before .before in
+    let n = c .before .before .put-chain .ensures in
+    let s = start f in
+    let at = s .args .at in
+    let laid = s .pre .0 .laid in
+    let room : at .words ≤ length (three f) = omega (arith, s .pre .1, put f .1 .long) in
+    (f .faces .ensures .0, (words-chain _ at (three f) _ laid room (placed-polygons _ _ (s .pre .0)) (put f .0) (n .0) (n .1), outside-then 0 _ _ _ (three f) _ (put f .1) (outside-wide 0 _ _ 0 (at .readings) (three f) _ (omega arith) (omega (arith, laid)) (n .1))))
 
 pub put-words-spec : {M : Type 1} → statement M
 put-words-spec =
@@ -105,5 +135,6 @@ put-words-spec =
     part-faces-start
     part-faces-end
     faces-requires
+    put-chain-requires
     (λ c. search needs)
     returns)

@@ -3,14 +3,14 @@ use mathlib.Core.Path.{sym, _∙_}
 use native.Mathlib.Omega.{arith}
 use borrow.Author.Needs.{needs}
 use borrow.Author.Tests.{not-true}
-use Rattle.solid_keys.specs.Columns.{col}
-use Rattle.solid_keys.proofs.ColumnLaws.{keyless-none}
+use Rattle.solid_keys.specs.Columns.{col, sideCells, slot}
+use Rattle.solid_keys.proofs.ColumnLaws.{keyless-none, same-slot}
 use Rattle.solid_keys.proofs.WalkLaws.{Walk, walk-start, walk-found, walk-on, walk-falls, walk-end}
 use Rattle.solid_keys.proofs.chains.find.Statement.{statement}
 use Rattle.solid_keys.proofs.chains.find.Tie as tie
 
 abbrev Inv-loop : tie.InvT-loop
-Inv-loop mem n s from t₀ t = Walk mem n s t
+Inv-loop mem n s from t₀ t = Walk (slot mem n) (λ u. sideCells mem u s) (slot mem n s) s t
 
 abbrev μ-loop : tie.MeasureT-loop
 μ-loop mem n s from t₀ t = t
@@ -25,7 +25,7 @@ returns c =
     keyless-none (s .args .mem .now) (s .args .s) (sym (c .before .is-live .ensures) ∙ not-true _ (c .if1 .taken))
 
 loop-holds : tie.Need-loop-holds Inv-loop μ-loop
-loop-holds c = walk-start _ (c .before .before .before .pre .1 .1 .1)
+loop-holds c = walk-start _ (λ u h. same-slot _ _ u _ h) (c .before .before .before .pre .1 .1 .1)
 
 same-side-requires : tie.Need-same-side-requires Inv-loop μ-loop
 same-side-requires c κs =
@@ -63,7 +63,7 @@ loop-less c =
 loop-again : tie.Need-loop-again Inv-loop μ-loop
 loop-again c =
     let i = c .before .before .before .before in
-    walk-on _ _ (i .before .loop .inv) (omega arith) (col (start i .args .mem .now) 5) (start i .pre .1 .1 .0)
+    walk-on _ _ (i .before .loop .inv) (omega arith) (col (start i .args .mem .now) 5) (λ u h. same-slot _ _ u _ h) (start i .pre .1 .1 .0)
     (sym (c .before .before .same-side .ensures) ∙ c .before .if2 .left)
 
 returns-3 : tie.Need-returns-3 Inv-loop μ-loop

@@ -1,0 +1,172 @@
+// The messages of printing, as dfm.rs's `printing` has them.
+ghost use mathlib.Core.Path.{_≡_};
+ghost use Rattle.num_text.specs.Put.{Put};
+ghost use Rattle.file_part.specs.Part.{partOf};
+ghost use Rattle.solid_faces.specs.Faces.{Checked};
+ghost use Rattle.fault_text.specs.Printing.{labelOf, limitOf, floorText, thinnerThanALayerText, fewLayersText, thinnerThanTheNozzleText, printThinWallText, printSmallHoleText, overhangText, enclosedHollowSlaText, enclosedHollowSlsText, printingText};
+use crate::job::job_of;
+use crate::kind::ENCLOSED_HOLLOW_SLA;
+use crate::kind::ENCLOSED_HOLLOW_SLS;
+use crate::kind::FEW_LAYERS;
+use crate::kind::OVERHANG;
+use crate::kind::PRINT_SMALL_HOLE;
+use crate::kind::PRINT_THIN_WALL;
+use crate::kind::THINNER_THAN_A_LAYER;
+use crate::kind::THINNER_THAN_THE_NOZZLE;
+use crate::text::put_mm;
+use fault_row::row::Row;
+use file_job::Process;
+use num_text::decimal::put_decimal;
+use num_text::put::put_bytes;
+
+// dfm.rs's `label`.
+fn put_label(out: &mut [u8], at: usize, process: Process) -> usize
+    ensures { λ r. ⌜ Put (now (out .entry)) at (labelOf process) (now (out .exit)) r ⌝ }
+{
+    match process {
+        Process::CncMachining => put_bytes(out, at, b"CNC machining"),
+        Process::SheetMetal => put_bytes(out, at, b"Sheet metal"),
+        Process::Fdm => put_bytes(out, at, b"FDM printing"),
+        Process::Sla => put_bytes(out, at, b"SLA printing"),
+        Process::Sls => put_bytes(out, at, b"SLS printing"),
+    }
+}
+
+// The limit of overhangs, in degrees.
+fn overhang_limit(tenths: u32) -> f64
+    ensures { λ r. ⌜ r ≡ limitOf tenths ⌝ }
+{
+    tenths as f64 / 10.0
+}
+
+// The start of the next two.
+fn put_floor(out: &mut [u8], at: usize, x: f64) -> usize
+    ensures { λ r. ⌜ Put (now (out .entry)) at (floorText x) (now (out .exit)) r ⌝ }
+{
+    let a = put_bytes(out, at, b"Floor or roof is ");
+    let b = put_mm(out, a, x);
+    put_bytes(out, b, b" thick, ")
+}
+
+// A floor or a roof that is x thick.
+fn put_thinner_than_a_layer(out: &mut [u8], at: usize, x: f64, layer: f64) -> usize
+    ensures { λ r. ⌜ Put (now (out .entry)) at (thinnerThanALayerText x layer) (now (out .exit)) r ⌝ }
+{
+    let a = put_floor(out, at, x);
+    let b = put_bytes(out, a, b"less than one ");
+    let c = put_mm(out, b, layer);
+    put_bytes(out, c, b" layer; it will not print.")
+}
+
+// A floor or a roof that is x thick, which is so many layers.
+fn put_few_layers(out: &mut [u8], at: usize, x: f64, layers: f64, layer: f64) -> usize
+    ensures { λ r. ⌜ Put (now (out .entry)) at (fewLayersText x layers layer) (now (out .exit)) r ⌝ }
+{
+    let a = put_floor(out, at, x);
+    let b = put_decimal(out, a, layers, 1);
+    let c = put_bytes(out, b, b" layers of ");
+    let d = put_mm(out, c, layer);
+    let e = put_bytes(out, d, b"; at least two layers (");
+    let f = put_mm(out, e, 2.0 * layer);
+    put_bytes(out, f, b") hold together.")
+}
+
+// A wall that is x thick.
+fn put_thinner_than_the_nozzle(out: &mut [u8], at: usize, x: f64, nozzle: f64) -> usize
+    ensures { λ r. ⌜ Put (now (out .entry)) at (thinnerThanTheNozzleText x nozzle) (now (out .exit)) r ⌝ }
+{
+    let a = put_bytes(out, at, b"Wall is ");
+    let b = put_mm(out, a, x);
+    let c = put_bytes(out, b, b" thick, narrower than the ");
+    let d = put_mm(out, c, nozzle);
+    put_bytes(out, d, b" nozzle's line; the slicer will leave it out.")
+}
+
+// The same, wider than the nozzle.
+fn put_print_thin_wall(out: &mut [u8], at: usize, process: Process, x: f64, min_wall: f64) -> usize
+    ensures { λ r. ⌜ Put (now (out .entry)) at (printThinWallText process x «min_wall») (now (out .exit)) r ⌝ }
+{
+    let a = put_bytes(out, at, b"Wall is ");
+    let b = put_mm(out, a, x);
+    let c = put_bytes(out, b, b" thick; ");
+    let d = put_label(out, c, process);
+    let e = put_bytes(out, d, b" needs at least ");
+    let f = put_mm(out, e, min_wall);
+    put_bytes(out, f, b" to print reliably.")
+}
+
+// A hole that is d across.
+fn put_print_small_hole(out: &mut [u8], at: usize, d: f64, min_hole: f64) -> usize
+    ensures { λ r. ⌜ Put (now (out .entry)) at (printSmallHoleText d «min_hole») (now (out .exit)) r ⌝ }
+{
+    let a = put_bytes(out, at, b"Hole is ");
+    let b = put_mm(out, a, d);
+    let c = put_bytes(out, b, b" across; holes under ");
+    let e = put_mm(out, c, min_hole);
+    put_bytes(
+        out,
+        e,
+        b" print undersized or close up. Print it larger and drill it to size.",
+    )
+}
+
+// Faces of this area, and the limit in tenths of a degree.
+fn put_overhang(out: &mut [u8], at: usize, area: f64, tenths: u32) -> usize
+    ensures { λ r. ⌜ Put (now (out .entry)) at (overhangText area tenths) (now (out .exit)) r ⌝ }
+{
+    let a = put_decimal(out, at, area, 1);
+    let b = put_bytes(out, a, b" mm\xc2\xb2 faces down more than ");
+    let c = put_decimal(out, b, overhang_limit(tenths), 0);
+    put_bytes(
+        out,
+        c,
+        b"\xc2\xb0 from vertical and needs supports; turning the part may avoid them.",
+    )
+}
+
+// A hollow of this volume, in resin.
+fn put_enclosed_hollow_sla(out: &mut [u8], at: usize, volume: f64) -> usize
+    ensures { λ r. ⌜ Put (now (out .entry)) at (enclosedHollowSlaText volume) (now (out .exit)) r ⌝ }
+{
+    let a = put_bytes(out, at, b"An enclosed hollow of ");
+    let b = put_decimal(out, a, volume, 1);
+    put_bytes(
+        out,
+        b,
+        b" mm\xc2\xb3 traps liquid resin, which can crack the part; add drain holes, or fill it.",
+    )
+}
+
+// The same, in powder.
+fn put_enclosed_hollow_sls(out: &mut [u8], at: usize, volume: f64) -> usize
+    ensures { λ r. ⌜ Put (now (out .entry)) at (enclosedHollowSlsText volume) (now (out .exit)) r ⌝ }
+{
+    let a = put_bytes(out, at, b"An enclosed hollow of ");
+    let b = put_decimal(out, a, volume, 1);
+    put_bytes(
+        out,
+        b,
+        b" mm\xc2\xb3 traps unsintered powder; add escape holes so it can be cleared, or fill it.",
+    )
+}
+
+// The text of a row of printing; nothing for another.
+pub(crate) fn put_printing(out: &mut [u8], at: usize, file: &[u8], row: Row) -> usize
+    requires { ⌜ Checked (now file) ⌝ }
+    ensures { λ r. ⌜ Put (now (out .entry)) at (printingText (partOf (now (file .entry))) row) (now (out .exit)) r ⌝ }
+{
+    let job = job_of(file);
+    let process = job.process;
+    let kind = row.kind;
+    match kind {
+        THINNER_THAN_A_LAYER => put_thinner_than_a_layer(out, at, row.x, job.print.layer),
+        FEW_LAYERS => put_few_layers(out, at, row.x, row.y, job.print.layer),
+        THINNER_THAN_THE_NOZZLE => put_thinner_than_the_nozzle(out, at, row.x, job.print.nozzle),
+        PRINT_THIN_WALL => put_print_thin_wall(out, at, process, row.x, job.print.min_wall),
+        PRINT_SMALL_HOLE => put_print_small_hole(out, at, row.x, job.print.min_hole),
+        OVERHANG => put_overhang(out, at, row.x, job.print.overhang),
+        ENCLOSED_HOLLOW_SLA => put_enclosed_hollow_sla(out, at, row.x),
+        ENCLOSED_HOLLOW_SLS => put_enclosed_hollow_sls(out, at, row.x),
+        _ => at,
+    }
+}
