@@ -11,7 +11,7 @@ use Rattle.fault_row.specs.Names.{severityRank, severityOf}
 use Rattle.fault_row.specs.Row.{row}
 use Rattle.fault_row.proofs.NameLaws.{severity-of}
 use Rattle.fault_text.specs.Kind.{thinnerThanALayer, fewLayers, thinnerThanTheNozzle, printThinWall, printSmallHole, overhang, enclosedHollowSla, enclosedHollowSls, printingRule, ruleOf}
-use Rattle.fault_text.specs.Printing.{twoLayers, limitOf, thinnerThanALayerFault, fewLayersFault, thinnerThanTheNozzleFault, printThinWallFault, printSmallHoleFault, overhangFault, enclosedHollowSlaFault, enclosedHollowSlsFault, printingText, printingPrinted}
+use Rattle.fault_text.specs.Printing.{twoLayers, limitOf, thinnerThanALayerFault, fewLayersFault, thinnerThanTheNozzleFault, printThinWallFault, printSmallHoleFault, enclosedHollowSlaFault, enclosedHollowSlsFault, printingText, printingPrinted}
 use Rattle.fault_text.specs.Many.{hollowFaces, manyFaces}
 use Rattle.fault_text.specs.Meaning.{textOf, isOfTwo, isOfOne, facesOfRow, faultOf, printedOf}
 

@@ -9,7 +9,7 @@ use Rattle.file_part.specs.Part.{Part}
 use Rattle.fault_row.specs.Names.{severityOf}
 use Rattle.fault_row.specs.Row.{row}
 use Rattle.fault_text.specs.Kind.{noMaterial, material, notOneThickness, tightBend, shortFlange, sheetSmallHole, holeNearBend, holeNearEdge, sheetRule, ruleOf}
-use Rattle.fault_text.specs.Sheet.{noMaterialFault, materialFault, notOneThicknessFault, tightBendFault, shortFlangeFault, sheetSmallHoleFault, holeNearBendFault, holeNearEdgeFault, sheetText, sheetPrinted}
+use Rattle.fault_text.specs.Sheet.{noMaterialFault, materialFault, tightBendFault, shortFlangeFault, sheetSmallHoleFault, holeNearBendFault, holeNearEdgeFault, sheetText, sheetPrinted}
 use Rattle.fault_text.specs.Many.{manyFaces}
 use Rattle.fault_text.specs.Meaning.{textOf, isOfTwo, isOfOne, facesOfRow, faultOf, printedOf}
 

@@ -1,14 +1,14 @@
 -- The answers of the probes, return by return.
 use mathlib.Core.Path.{_≡_, refl, sym, ap, _∙_, subst}
-use mathlib.Core.Bool.{Bool, true, false, _&&_}
+use mathlib.Core.Bool.{true, false}
 use mathlib.Core.List.{List}
 use Prim.Native.Nat.{ℕ, _+_, _≤_, _<_}
 use native.Mathlib.Omega.{arith}
-use lib.Dec.{eqb, leb}
+use lib.Dec.{leb}
 use lib.ListN.{length}
 use lib.Ieee.{Float, nan}
 use borrow.Author.Tests.{eq-eqb, ne-eqb, le-leb, lt-leb}
-use Rattle.num_float.proofs.Tests.{contrary, and-true, and-left, and-right, and-false-left, and-false-right}
+use Rattle.num_float.proofs.Tests.{contrary, and-true, and-false-left, and-false-right}
 use Rattle.num_text.specs.Put.{Put}
 use Rattle.list_laws.specs.Region.{Outside}
 use Rattle.list_laws.proofs.Outside.{outside-then, outside-wide}
@@ -18,7 +18,7 @@ use Rattle.file_ok.specs.declared.verdict.Verdict.{Verdict}
 use Rattle.file_ok.specs.Verdict.{number}
 use Rattle.solid_faces.specs.Faces.{bodyVerdict}
 use Rattle.scratch.specs.declared.regions.Regions.{Regions}
-use Rattle.scratch.specs.Regions.{Laid, wordsNeeded, realsNeeded}
+use Rattle.scratch.specs.Regions.{Laid}
 use Rattle.scratch.specs.Refusal.{bodyRefusal}
 use Rattle.scratch.specs.Standing.{Placed}
 use Rattle.fault_row.specs.declared.row.Row.{Row}
@@ -26,7 +26,7 @@ use Rattle.fault_row.specs.Row.{rowAt}
 use Rattle.fault_row.specs.Faults.{FaultsPut}
 use Rattle.fault_text.specs.Meaning.{textOf, faultOf, GoodRow}
 use Rattle.rule_machining.specs.All.{machining, MachiningPut}
-use Rattle.probe_rules.specs.Machining.{Found, MachiningAnswer}
+use Rattle.probe_rules.specs.Machining.{MachiningAnswer}
 use Rattle.probe_rules.specs.Message.{asked, MessageAnswer}
 
 -- ---- machining

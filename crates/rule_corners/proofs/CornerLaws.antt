@@ -11,7 +11,7 @@ use lib.Seq.{getD-append-add, getD-set-same, getD-set-other}
 use lib.Ieee.{Float, nan}
 use borrow.Rule.Slice.PartMut.{putMid}
 use Rattle.num_float.proofs.Tests.{lt-or-ge}
-use Rattle.list_laws.specs.Region.{part, Outside}
+use Rattle.list_laws.specs.Region.{Outside}
 use Rattle.list_laws.proofs.Regions.{part-length, part-put}
 use Rattle.list_laws.proofs.Outside.{outside-none, outside-then, outside-wide, outside-set, outside-put}
 use Rattle.list_groups.specs.Groups.{passing}
@@ -21,17 +21,16 @@ use Rattle.file_part.specs.Part.{Part, partOf}
 use Rattle.file_part.proofs.PartLaws.{part-vertices}
 use Rattle.solid_faces.specs.Faces.{facesOf}
 use Rattle.solid_faces.proofs.BodyLaws.{checked-readable, checked-faces}
-use Rattle.solid_faces.proofs.CountLaws.{few-faces}
-use Rattle.solid_edges.specs.Edges.{faceOfSide, faceBeyond, isEdge}
+use Rattle.solid_edges.specs.Edges.{isEdge}
 use Rattle.solid_edges.proofs.ScanLaws.{face-below}
 use Rattle.solid_edges.proofs.EdgeLaws.{beyond-below}
 use Rattle.scratch.specs.declared.regions.Regions.{Regions}
 use Rattle.scratch.specs.Regions.{Laid}
 use Rattle.scratch.specs.Standing.{Standing}
-use Rattle.scratch.proofs.StandingLaws.{placed-polygons, placed-vertices, body-sorted, standing-still}
+use Rattle.scratch.proofs.StandingLaws.{placed-vertices}
 use Rattle.solid_ranks.specs.Ranks.{rankOf}
 use Rattle.solid_ranks.specs.Kept.{Ranked}
-use Rattle.solid_ranks.proofs.KeptLaws.{ranked-kept}
+use Rattle.solid_tours.proofs.PutLaws.{still-standing, still-ranked}
 use Rattle.solid_pairs.specs.declared.FacePair.{FacePair}
 use Rattle.solid_pairs.specs.Pairs.{lower, higher}
 use Rattle.solid_pairs.specs.Kept.{PairIs, lowRank, highRank, itemKey, PairsSorted}
@@ -41,7 +40,7 @@ use Rattle.num_float.proofs.Tests.{and-left}
 use Rattle.rule_corners.specs.declared.segment.Found.{Found}
 use Rattle.rule_corners.specs.declared.segment.Found.the-variants.{Corner, Nothing}
 use Rattle.rule_corners.specs.Corners.{isCorner, cornerSides, cornerCount, cornerSide, nearFace, farFace}
-use Rattle.rule_corners.specs.Kept.{cornerKeys, cornerOrder, CornersOrdered, CornersPut}
+use Rattle.rule_corners.specs.Kept.{cornerKeys, cornerOrder, CornersPut}
 use Rattle.rule_corners.specs.Work.{FoundIs, segmentKey, CornersTo, CornerPut, AllPut}
 
 -- ---- one segment more
@@ -162,17 +161,6 @@ module _ (t : Part) (at : Regions) (s m : ℕ) (words : List ℕ) (reals : List 
           words-kept = outside-set 0 (at .items) (at .sorted) words (at .items + m) s (omega arith) (omega (arith, before, low, laid));
           reals-kept = outside-set nan (at .directions) (at .free) reals (at .directions + m) (r .key) (omega arith) (omega (arith, before, low, laid));
         }
-
--- ---- the body and the ranks are as they were
-module _ (s : List ℕ) (at : Regions) (words words′ : List ℕ) (reals reals′ : List Float) (e : ℕ) (h : Standing s at words reals) (high : e ≤ at .chain)
-    (w : Outside 0 (at .items) e words words′) (r : Outside nan (at .directions) (at .free) reals reals′) where
-  pub still-standing : Standing s at words′ reals′
-  still-standing =
-      standing-still s at (at .free) words words′ reals reals′ h (body-sorted at (h .placed .laid) (at .items) e words words′ (omega arith) high w)
-      (outside-wide nan _ _ _ _ reals reals′ (omega (arith, h .placed .laid)) (omega arith) r)
-
-  pub still-ranked : Ranked (partOf s) at words → Ranked (partOf s) at words′
-  still-ranked ranked = ranked-kept (partOf s) at words words′ (λ f l. w .above (at .ranks + f) (omega (arith, h .placed .laid, high))) ranked
 
 -- ---- all segments
 pub all-put : (s : List ℕ) (at : Regions) (words words′ : List ℕ) (reals reals′ : List Float) (i m : ℕ) → Standing s at words reals → i ≤ at .vertices → at .vertices ≤ i → m ≤ i →

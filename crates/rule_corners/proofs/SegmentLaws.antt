@@ -1,18 +1,15 @@
 -- One segment, in the words of what the code calls.
-use mathlib.Core.Path.{_≡_, refl, sym, ap, _∙_, subst}
+use mathlib.Core.Path.{_≡_, refl, sym, ap, _∙_}
 use mathlib.Core.Bool.{Bool, true, false, not, _&&_}
 use mathlib.Core.Logic.{_⊎_, inl, inr}
 use mathlib.Core.List.{List}
 use Prim.Native.Nat.{ℕ, _+_, _-_, _*_, _≤_, _<_}
 use native.Mathlib.Omega.{arith}
 use lib.Dec.{eqb, ltb, leb}
-use lib.ListN.{length}
 use lib.Ieee.{Float, lt}
 use denote.Enum.Declared.{tagOf}
 use borrow.Author.Tests.{ltb-true, leb-true}
-use Rattle.num_float.proofs.Tests.{and-true, and-left, and-right, and-false-left, and-false-right}
-use Rattle.list_laws.specs.Region.{part}
-use Rattle.list_laws.proofs.Regions.{part-length}
+use Rattle.num_float.proofs.Tests.{and-left, and-right, and-false-left, and-false-right}
 use Rattle.math.specs.declared.Vec3.{Vec3}
 use Rattle.math.specs.Vector.{plus, minus, times, dotOf, lengthOf}
 use Rattle.file_field.specs.Field.{vecAt}
@@ -21,36 +18,19 @@ use Rattle.file_part.specs.declared.read.SurfaceKind.the-variants.{Plane, Cylin
 use Rattle.file_part.proofs.read.SurfaceKind as surface-kind
 use Rattle.file_part.specs.Layout.{vertexCount, polygonCount, entryAt}
 use Rattle.file_part.specs.Part.{Part, surfaceAt, partOf}
-use Rattle.file_part.proofs.PartLaws.{part-vertices, part-polygons, part-vertex, part-surface}
+use Rattle.file_part.proofs.PartLaws.{part-polygons, part-vertex, part-surface}
 use Rattle.solid_polygon.specs.declared.polygon.Plane as plane
 use Rattle.solid_polygon.specs.Polygon.{half}
-use Rattle.solid_faces.specs.Faces.{polygonPlane, Checked}
+use Rattle.solid_faces.specs.Faces.{polygonPlane}
 use Rattle.solid_segments.specs.Sides.{ownerOf, toOf}
 use Rattle.solid_edges.specs.declared.edge.Edge.{Edge}
 use Rattle.solid_edges.specs.Edges.{pairIn, isTwo, faceOfSide, faceBeyond, isEdge, EdgeIs}
-use Rattle.solid_edges.specs.Scan.{Lent}
-use Rattle.scratch.specs.declared.regions.Regions.{Regions}
-use Rattle.scratch.specs.Standing.{Standing}
-use Rattle.scratch.proofs.StandingLaws.{placed-polygons, placed-vertices}
 use Rattle.wall_ray.specs.Strike.{e-9}
 use Rattle.wall_samples.specs.Samples.{polygonCentroid}
 use Rattle.rule_corners.specs.declared.segment.Sides.{Sides}
 use Rattle.rule_corners.specs.declared.segment.Found.the-variants.{Corner, Nothing}
 use Rattle.rule_corners.specs.Corners.{ninety-nine, polygonBeyond, isPlane, onPlane, midOf, isConcave, isCorner, segmentLength}
 use Rattle.rule_corners.specs.Work.{SidesOf, FoundIs}
-
--- ---- the sides and the faces, as they are lent
-pub standing-lent : (s : List ℕ) (at : Regions) (words : List ℕ) (reals : List Float) → Standing s at words reals →
-    Lent s (part (at .sides) (at .items) words) (part (at .faces) (at .readings) words)
-standing-lent s at words reals h =
-    record {
-      faced = record {
-        checked = h .placed .checked;
-        known = h .the-words .faces;
-        long = part-length (at .faces) (at .readings) words (omega (arith, h .words-room, h .placed .laid)) ∙ omega (arith, h .placed .laid, placed-polygons s at (h .placed));
-      };
-      shared = h .the-words .sides;
-    }
 
 -- ---- the two polygons
 -- the place of a surface among the variants, which is what a `match` knows; a plane's is 0

@@ -2,7 +2,7 @@
 use mathlib.Core.Path.{_≡_, refl, sym, ap, _∙_, subst}
 use mathlib.Core.Bool.{Bool, true, false, _||_, cond}
 use mathlib.Core.List.{List, [], _∷_, _++_, List·Memᴰ}
-use Prim.Native.Nat.{ℕ, _+_, _≤_, _<_}
+use Prim.Native.Nat.{ℕ, _≤_, _<_}
 use native.Mathlib.Omega.{arith}
 use lib.ListN.{length}
 use lib.Ieee.{Float}
@@ -11,7 +11,6 @@ use Rattle.list_laws.proofs.Regions.{part-length}
 use Rattle.math.specs.declared.Vec3.{Vec3}
 use Rattle.math.specs.Vector.{zero, plus, times}
 use Rattle.file_part.specs.Part.{Part, partOf}
-use Rattle.solid_faces.specs.Faces.{facesOf}
 use Rattle.scratch.specs.declared.regions.Regions.{Regions}
 use Rattle.wall_ray.specs.Nearest.{isOpen}
 use Rattle.fault_row.specs.Fault.{Fault}

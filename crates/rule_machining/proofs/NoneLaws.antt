@@ -1,6 +1,6 @@
 -- "A part without polygons has none."
-use mathlib.Core.Path.{_≡_, refl, ap, _∙_}
-use mathlib.Core.List.{List, [], _++_}
+use mathlib.Core.Path.{_≡_, ap}
+use mathlib.Core.List.{List, []}
 use Prim.Native.Nat.{ℕ}
 use Rattle.list_laws.specs.Below.{countBelow}
 use Rattle.list_groups.specs.Groups.{joined, overPairs}

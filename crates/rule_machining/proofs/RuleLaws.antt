@@ -1,27 +1,24 @@
 -- One rule after the other: what each leaves for the next, and all of them together.
-use mathlib.Core.Path.{_≡_, refl, sym, ap, _∙_}
-use mathlib.Core.List.{List, [], _++_}
-use Prim.Native.Nat.{ℕ, _+_, _*_, _≤_, _<_}
+use mathlib.Core.Path.{_≡_}
+use mathlib.Core.List.{List}
+use Prim.Native.Nat.{ℕ, _+_, _≤_}
 use native.Mathlib.Omega.{arith}
 use lib.ListN.{length}
 use lib.Ieee.{Float, nan}
 use Rattle.list_laws.specs.Region.{Outside}
 use Rattle.list_laws.proofs.Outside.{outside-then, outside-wide}
-use Rattle.file_part.specs.Part.{Part, partOf}
-use Rattle.solid_faces.specs.Faces.{faceCount, facesOf}
-use Rattle.solid_faces.proofs.BodyLaws.{checked-faces}
+use Rattle.file_part.specs.Part.{partOf}
 use Rattle.scratch.specs.declared.regions.Regions.{Regions}
 use Rattle.scratch.specs.Regions.{Laid}
 use Rattle.scratch.specs.Standing.{Standing}
 use Rattle.scratch.proofs.StandingLaws.{placed-polygons}
-use Rattle.solid_ranks.specs.Kept.{Ranked, SortsOnly, RanksPut}
+use Rattle.solid_ranks.specs.Kept.{RanksPut}
 use Rattle.solid_ranks.proofs.KeptLaws.{ranked-kept}
 use Rattle.wall_samples.specs.Samples.{readingsOf}
 use Rattle.wall_samples.specs.Stored.{Readings}
 use Rattle.wall_samples.proofs.ReadingLaws.{readings-most}
 use Rattle.wall_pairs.specs.Kept.{WallsPut}
 use Rattle.wall_pairs.proofs.KeptLaws.{readings-kept}
-use Rattle.fault_row.specs.Fault.{Fault}
 use Rattle.fault_row.specs.Faults.{FaultsPut}
 use Rattle.fault_row.proofs.FaultLaws.{faults-then}
 use Rattle.fault_text.specs.Meaning.{faultOf, GoodRow}

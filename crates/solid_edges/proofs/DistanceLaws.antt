@@ -1,4 +1,4 @@
--- The least distance from edges, turn by turn: the loops keep the least square, and its root is the least distance.
+-- The least distance from edges, side by side: the root of the least square is the least distance.
 use mathlib.Core.Path.{_≡_, refl, sym, ap, _∙_, subst}
 use mathlib.Core.Bool.{Bool, true, false, cond}
 use mathlib.Core.List.{List}
@@ -6,8 +6,6 @@ use mathlib.Core.Logic.{_⊎_, inl, inr}
 use Prim.Native.Nat.{ℕ, zero, suc, _+_, _*_, _≤_, _<_}
 use native.Mathlib.Numerals.{add-one}
 use native.Mathlib.Omega.{arith}
-use native.Mathlib.Nat.{le-antisymm}
-use lib.ListN.{getD}
 use lib.Ieee.{Float, nan, inf, binary64, fits, lt, isNan, ofBits}
 use Rattle.num_float.specs.Order.{lesser}
 use Rattle.num_float.specs.Sign.{NonNeg}
@@ -22,13 +20,11 @@ use Rattle.num_real.specs.Select.{minOf}
 use Rattle.math.specs.declared.Vec3.{Vec3}
 use Rattle.math.specs.Vector.{minus, lengthSqOf, lengthOf, distanceOf}
 use Rattle.file_field.specs.Field.{vecAt}
-use Rattle.file_part.specs.Layout.{vertexCount}
 use Rattle.file_part.specs.Part.{Part, partOf}
-use Rattle.file_part.proofs.PartLaws.{part-vertices, part-vertex}
+use Rattle.file_part.proofs.PartLaws.{part-vertex}
 use Rattle.solid_segments.specs.Sides.{toOf}
 use Rattle.solid_distance.specs.Segment.{nearestOn, segDistance}
-use Rattle.solid_edges.specs.Distance.{sideDistance, sideSquare, distanceTo, edgeDistance, betweenDistance}
-use Rattle.solid_edges.specs.Edges.{isEdgeOf, isBetween}
+use Rattle.solid_edges.specs.Distance.{sideDistance, sideSquare, distanceTo}
 
 -- ---- one side
 pub square-is : (file : List ℕ) (s to : ℕ) (p a b n d : Vec3) (r : Float) → to ≡ toOf (partOf file) s → a ≡ vecAt file (24 * s) → b ≡ vecAt file (24 * to) →
@@ -57,7 +53,7 @@ module _ (t : Part) (p : Vec3) (s : ℕ) (x y : Float) (e : y ≡ sideSquare t p
   pub nearer-same : lt y x ≡ false → x ≡ lesser x (sideSquare t p s)
   nearer-same l = rw (← e, l)
 
--- ---- the loops
+-- ---- side by side
 -- x is the least square over the sides below n that pass the test: its root is the least distance
 pub record LeastSquare (t : Part) (test : ℕ → Bool) (p : Vec3) (n : ℕ) (x : Float) : Type 0 where
   pub root-is : root x ≡ distanceTo t test p n
@@ -119,21 +115,6 @@ least-past t test p s x r b h e w q =
       number = h .number;
     } in
     rw (q, add-one) past
-
-least-all : (file : List ℕ) (test : ℕ → Bool) (p : Vec3) (v s : ℕ) (x r : Float) → v ≡ vertexCount file → s ≤ v → v ≤ s →
-    LeastSquare (partOf file) test p s x → r ≡ root x → r ≡ distanceTo (partOf file) test p (partOf file .vertices)
-least-all file test p v s x r e a b h q =
-    q ∙ h .root-is ∙ ap (distanceTo (partOf file) test p) (le-antisymm a b ∙ e ∙ sym (part-vertices file))
-
-pub edge-all : (file : List ℕ) (f : ℕ) (p : Vec3) (v s : ℕ) (x r : Float) → v ≡ vertexCount file → s ≤ v → v ≤ s →
-    LeastSquare (partOf file) (isEdgeOf (partOf file) f) p s x → r ≡ root x → r ≡ edgeDistance (partOf file) f p
-unfolding edgeDistance
-edge-all file f p v s x r e a b h q = least-all file (isEdgeOf (partOf file) f) p v s x r e a b h q
-
-pub between-all : (file : List ℕ) (f g : ℕ) (p : Vec3) (v s : ℕ) (x r : Float) → v ≡ vertexCount file → s ≤ v → v ≤ s →
-    LeastSquare (partOf file) (isBetween (partOf file) f g) p s x → r ≡ root x → r ≡ betweenDistance (partOf file) f g p
-unfolding betweenDistance
-between-all file f g p v s x r e a b h q = least-all file (isBetween (partOf file) f g) p v s x r e a b h q
 
 -- ---- what the distance is: that of some side that passes the test, with none nearer; infinity where no side gives a lower one
 pub record OfSide (t : Part) (test : ℕ → Bool) (p : Vec3) (n : ℕ) (x : Float) : Type 0 where

@@ -2,7 +2,7 @@
 use mathlib.Core.Path.{_≡_, refl, sym, ap, _∙_}
 use mathlib.Core.Bool.{Bool, true, false, not, _&&_, _||_, cond}
 use mathlib.Core.List.{List}
-use Prim.Native.Nat.{ℕ, suc, _+_, _-_, _≤_, _<_}
+use Prim.Native.Nat.{ℕ, _+_, _-_, _≤_, _<_}
 use native.Mathlib.Numerals.{add-one}
 use native.Mathlib.Omega.{arith}
 use lib.Dec.{eqb, ltb, leb}
@@ -17,7 +17,7 @@ use Rattle.solid_keys.proofs.MeaningLaws.{pair-shared, shared-pair}
 use Rattle.solid_segments.proofs.SharedLaws.{part-sides-alike}
 use Rattle.solid_faces.specs.Faces.{facesOf}
 use Rattle.solid_edges.specs.declared.edge.Edge.{Edge}
-use Rattle.solid_edges.specs.Edges.{pairIn, isTwo, faceOfSide, faceBeyond, isEdge, isEdgeOf, otherFace, isBetween, EdgeIs, leadsTo}
+use Rattle.solid_edges.specs.Edges.{pairIn, isTwo, faceOfSide, faceBeyond, isEdge, isEdgeOf, otherFace, EdgeIs, leadsTo}
 use Rattle.solid_edges.proofs.ScanLaws.{face-below}
 
 -- ---- `edge_at`
@@ -88,14 +88,6 @@ module _ (file : List ℕ) (readable : Readable file) (s : ℕ) (low : s < verte
       go true near beyond = beyond
       go false near beyond = near
 
-  pub leads-within : (f r : ℕ) → r ≡ leadsTo t f s → r ≤ facesOf t
-  unfolding leadsTo
-  leads-within f r e = go (isEdgeOf t f s) (other-below f) e
-    where
-      go : (b : Bool) → (b ≡ true → otherFace t f s < facesOf t) → r ≡ cond b (suc (otherFace t f s)) 0 → r ≤ facesOf t
-      go true below q = omega (arith, q, below refl)
-      go false below q = omega (arith, q)
-
 -- ---- `leads_to`
 module _ (t : Part) (f s : ℕ) (e : Edge) (h : EdgeIs t s e) where
   pub leads-none : not (e .«is_edge») ≡ true → 0 ≡ leadsTo t f s
@@ -119,31 +111,6 @@ module _ (t : Part) (f s : ℕ) (e : Edge) (h : EdgeIs t s e) where
   leads-past n d q =
       let is = not-false _ n in
       rw (sym (h .is) ∙ is, ne-eqb (faceOfSide t s) f (λ z. d (h .near-is is ∙ z)), ne-eqb (faceBeyond t s) f (λ z. q (h .beyond-is is ∙ z)))
-
--- ---- the questions that are answered by where a side leads
-pub leads-edge : (t : Part) (f s r : ℕ) → r ≡ leadsTo t f s → ltb 0 r ≡ isEdgeOf t f s
-unfolding leadsTo
-leads-edge t f s r e = go (isEdgeOf t f s) e
-  where
-    go : (b : Bool) → r ≡ cond b (suc (otherFace t f s)) 0 → ltb 0 r ≡ b
-    go true q = lt-ltb 0 r (omega (arith, q))
-    go false q = le-ltb 0 r (omega (arith, q))
-
-pub between-none : (t : Part) (f g s r : ℕ) → r ≡ leadsTo t f s → r ≡ 0 → false ≡ isBetween t f g s
-unfolding leadsTo isBetween
-between-none t f g s r e z = go (isEdgeOf t f s) e
-  where
-    go : (b : Bool) → r ≡ cond b (suc (otherFace t f s)) 0 → false ≡ (b && eqb (otherFace t f s) g)
-    go true q = absurd (omega (arith, q, z))
-    go false q = refl
-
-pub between-some : (t : Part) (f g s r : ℕ) → r ≡ leadsTo t f s → (r ≡ 0 → ⊥) → eqb (r - 1) g ≡ isBetween t f g s
-unfolding leadsTo isBetween
-between-some t f g s r e z = go (isEdgeOf t f s) e
-  where
-    go : (b : Bool) → r ≡ cond b (suc (otherFace t f s)) 0 → eqb (r - 1) g ≡ (b && eqb (otherFace t f s) g)
-    go true q = let same : r - 1 ≡ otherFace t f s = omega (arith, q) in ap (λ (k : ℕ). eqb k g) same
-    go false q = absurd (z q)
 
 -- ---- what an edge is: a shared segment of sides s and u, of which the faces differ
 pub record BetweenFaces (t : Part) (s u : ℕ) : Type 0 where

@@ -5,8 +5,6 @@
 -- EdgeLaws
 --   beyond-below, other-below            the faces of an edge are there
 --   edge-between, between-edge           an edge is a shared segment between different faces, and back
---   leads-edge, leads-within             what `leadsTo` says
--- NeighbourLaws: the loops of `next_neighbour` and `first_between`
 -- NextLaws: `nextNeighbour` with nothing computed
 --   next-is, is-next        g + 1 is the neighbour past `after` of the lowest id, and back; next-unique
 --   next-none, none-next    0 is that no side is wanted, and back
@@ -14,11 +12,10 @@
 -- TourLaws: asked again and again from 0 on
 --   tour-neighbour, tour-rises, tour-meets   each answer is a neighbour, they rise in their ids, and every neighbour is met
 -- DistanceLaws
---   least-near, least-past, edge-all, between-all   the loops: the root of the least square is the least distance
+--   least-none, least-near, least-past    the root of the least square is the least distance
 --   distance-least          the distance of some edge, with none nearer, or infinity
 pub mod ScanLaws
 pub mod EdgeLaws
-pub mod NeighbourLaws
 pub mod NextLaws
 pub mod TourLaws
 pub mod DistanceLaws

@@ -21,10 +21,6 @@ isWanted t f after s = isEdgeOf t f s && isPast t after (otherFace t f s)
 unfoldable pub isBetter : Part → ℕ → ℕ → Bool
 isBetter t best g = eqb best 0 || faceBefore t g (best - 1)
 
--- the better of the best yet and the face g that an edge leads to; both 0 or one more than a face
-unfoldable pub betterOf : Part → ℕ → ℕ → ℕ → ℕ
-betterOf t after best g = cond (eqb g 0) best (cond (isPast t after (g - 1) && isBetter t best (g - 1)) g best)
-
 -- of the wanted edges below n, the face of the lowest id
 unfoldable pub neighbourTo : Part → ℕ → ℕ → ℕ → ℕ
 neighbourTo t f after zero = 0

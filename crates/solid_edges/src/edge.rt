@@ -4,7 +4,7 @@ ghost use Prim.Native.Nat.{_<_};
 ghost use Rattle.file_part.specs.Layout.{vertexCount, polygonCount};
 ghost use Rattle.file_part.specs.Part.{partOf};
 ghost use Rattle.solid_segments.specs.Sides.{ownerOf, toOf};
-ghost use Rattle.solid_edges.specs.Edges.{pairIn, faceOfSide, isEdgeOf, isBetween, leadsTo, EdgeIs};
+ghost use Rattle.solid_edges.specs.Edges.{pairIn, faceOfSide, leadsTo, EdgeIs};
 ghost use Rattle.solid_edges.specs.Scan.{Lent};
 use file_part::read::vertex_count;
 use list_cells::cell;
@@ -95,24 +95,4 @@ pub fn leads_to(file: &[u8], sides: &[u32], faces: &[u32], f: usize, s: usize) -
         return e.near + 1;
     }
     0
-}
-
-// Whether side s is an edge of face f.
-pub fn is_edge_of(file: &[u8], sides: &[u32], faces: &[u32], f: usize, s: usize) -> bool
-    requires { ⌜ Lent (now file) (now sides) (now faces) ⌝ ∗ ⌜ s < vertexCount (now file) ⌝ }
-    ensures { λ r. ⌜ r ≡ isEdgeOf (partOf (now (file .entry))) f s ⌝ }
-{
-    0 < leads_to(file, sides, faces, f, s)
-}
-
-// Whether side s is an edge between faces f and g.
-pub fn is_between(file: &[u8], sides: &[u32], faces: &[u32], f: usize, g: usize, s: usize) -> bool
-    requires { ⌜ Lent (now file) (now sides) (now faces) ⌝ ∗ ⌜ s < vertexCount (now file) ⌝ }
-    ensures { λ r. ⌜ r ≡ isBetween (partOf (now (file .entry))) f g s ⌝ }
-{
-    let to = leads_to(file, sides, faces, f, s);
-    if to == 0 {
-        return false;
-    }
-    to - 1 == g
 }

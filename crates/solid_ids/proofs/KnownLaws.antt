@@ -1,7 +1,7 @@
 -- What the lent slice of an accepted file's faces holds, in the words of the functions that read it.
 use mathlib.Core.Path.{_≡_, sym, ap, _∙_}
 use mathlib.Core.List.{List}
-use Prim.Native.Nat.{ℕ, _+_, _*_, _≤_, _<_}
+use Prim.Native.Nat.{ℕ, _+_, _≤_, _<_}
 use native.Mathlib.Omega.{arith}
 use lib.ListN.{length, getD}
 use Rattle.file_part.specs.Layout.{vertexCount, polygonCount, entryAt}

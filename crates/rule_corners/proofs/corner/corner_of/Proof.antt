@@ -1,5 +1,4 @@
 -- `rule_corners::corner::corner_of` meets its contract.
-use borrow.Author.Needs.{needs}
 use native.Mathlib.Omega.{arith}
 use Rattle.rule_corners.proofs.WalkLaws.{order-long, corner-is}
 use Rattle.scratch.proofs.StandingLaws.{placed-vertices}

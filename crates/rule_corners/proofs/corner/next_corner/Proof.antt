@@ -1,5 +1,4 @@
 -- `rule_corners::corner::next_corner` meets its contract: the group at a place and its two faces.
-use borrow.Author.Needs.{needs}
 use native.Mathlib.Omega.{arith}
 use Rattle.rule_corners.proofs.WalkLaws.{polygon-in, near-below, far-below, order-numbered, next-is}
 use Rattle.scratch.proofs.StandingLaws.{placed-vertices}

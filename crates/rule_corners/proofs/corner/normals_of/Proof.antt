@@ -1,9 +1,8 @@
 -- `rule_corners::corner::normals_of` meets its contract.
-use borrow.Author.Needs.{needs}
 use native.Mathlib.Omega.{arith}
 use Rattle.rule_corners.proofs.WalkLaws.{polygon-in, near-below, far-below, normals-turned, normals-straight}
 use mathlib.Core.Path.{_∙_}
-use Rattle.rule_corners.proofs.SegmentLaws.{standing-lent}
+use Rattle.solid_tours.proofs.PutLaws.{standing-lent}
 use Rattle.rule_corners.proofs.corner.normals_of.Statement.{statement}
 use Rattle.rule_corners.proofs.corner.normals_of.Tie as tie
 

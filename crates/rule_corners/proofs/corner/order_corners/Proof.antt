@@ -1,5 +1,4 @@
 -- `rule_corners::corner::order_corners` meets its contract: found, then sorted.
-use borrow.Author.Needs.{needs}
 use Rattle.rule_corners.proofs.CornerLaws.{sort-room, corners-put}
 use native.Mathlib.Omega.{arith}
 use Rattle.rule_corners.proofs.corner.order_corners.Statement.{statement}

@@ -1,6 +1,6 @@
 -- `rule_corners::corner::put_corners` meets its contract: the corners of the segments passed are kept.
-use borrow.Author.Needs.{needs}
-use Rattle.rule_corners.proofs.CornerLaws.{corners-none, still-standing, still-ranked, all-put}
+use Rattle.rule_corners.proofs.CornerLaws.{corners-none, all-put}
+use Rattle.solid_tours.proofs.PutLaws.{still-standing, still-ranked}
 use Prim.Native.Nat.{_-_, _≤_}
 use native.Mathlib.Omega.{arith}
 use lib.Ieee.{nan}

@@ -1,5 +1,4 @@
 -- `rule_corners::corner::side_at` meets its contract: the item at a place, and its side.
-use borrow.Author.Needs.{needs}
 use native.Mathlib.Omega.{arith}
 use Rattle.rule_corners.proofs.WalkLaws.{most, place-room, item-room, side-is}
 use Rattle.rule_corners.proofs.corner.side_at.Statement.{statement}

@@ -1,5 +1,4 @@
 -- `rule_corners::corner::total_length` meets its contract: the corners passed are added.
-use borrow.Author.Needs.{needs}
 use native.Mathlib.Omega.{arith}
 use Rattle.rule_corners.proofs.WalkLaws.{most, order-long, order-inside, length-none, length-more, length-end}
 use mathlib.Core.Path.{_≡_}

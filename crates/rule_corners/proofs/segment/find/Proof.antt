@@ -1,6 +1,6 @@
 -- `rule_corners::segment::find` meets its contract.
-use borrow.Author.Needs.{needs}
-use Rattle.rule_corners.proofs.SegmentLaws.{standing-lent, edge-is, found-no-edge, found-no-corner, found-corner}
+use Rattle.rule_corners.proofs.SegmentLaws.{edge-is, found-no-edge, found-no-corner, found-corner}
+use Rattle.solid_tours.proofs.PutLaws.{standing-lent}
 use borrow.Author.Tests.{not-true, not-false}
 use native.Mathlib.Omega.{arith}
 use Rattle.rule_corners.proofs.segment.find.Statement.{statement}

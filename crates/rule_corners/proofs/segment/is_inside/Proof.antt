@@ -1,5 +1,4 @@
 -- `rule_corners::segment::is_inside` meets its contract.
-use borrow.Author.Needs.{needs}
 use Rattle.rule_corners.proofs.SegmentLaws.{near-curved, far-curved, both-flat}
 use borrow.Author.Tests.{not-true, not-false}
 use Rattle.file_part.proofs.PartLaws.{part-polygons}

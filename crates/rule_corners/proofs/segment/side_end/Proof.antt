@@ -1,6 +1,5 @@
 -- `rule_corners::segment::side_end` meets its contract.
-use borrow.Author.Needs.{needs}
-use Rattle.rule_corners.proofs.SegmentLaws.{standing-lent}
+use Rattle.solid_tours.proofs.PutLaws.{standing-lent}
 use native.Mathlib.Omega.{arith}
 use Rattle.rule_corners.proofs.segment.side_end.Statement.{statement}
 use Rattle.rule_corners.proofs.segment.side_end.Tie as tie

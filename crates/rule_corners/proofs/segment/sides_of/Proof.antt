@@ -1,6 +1,6 @@
 -- `rule_corners::segment::sides_of` meets its contract.
-use borrow.Author.Needs.{needs}
-use Rattle.rule_corners.proofs.SegmentLaws.{standing-lent, second-side, sides-are}
+use Rattle.rule_corners.proofs.SegmentLaws.{second-side, sides-are}
+use Rattle.solid_tours.proofs.PutLaws.{standing-lent}
 use Rattle.file_part.proofs.PartLaws.{part-vertices}
 use native.Mathlib.Omega.{arith}
 use Rattle.rule_corners.proofs.segment.sides_of.Statement.{statement}

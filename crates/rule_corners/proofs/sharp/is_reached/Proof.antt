@@ -1,6 +1,5 @@
 -- `rule_corners::sharp::is_reached` meets its contract.
 use borrow.Author.Needs.{needs}
-use native.Mathlib.Omega.{arith}
 use Rattle.rule_corners.proofs.SharpLaws.{reached-first, reached-second}
 use Rattle.rule_corners.proofs.sharp.is_reached.Statement.{statement}
 use Rattle.rule_corners.proofs.sharp.is_reached.Tie as tie

@@ -1,5 +1,4 @@
 -- `rule_corners::sharp::put_sharp_corners` meets its contract: the faults of the faces passed are put.
-use borrow.Author.Needs.{needs}
 use native.Mathlib.Omega.{arith}
 use Rattle.rule_corners.proofs.SharpLaws.{sharp-start, sharp-more, sharp-end}
 use Prim.Native.Nat.{_+_, _-_, _≤_}

@@ -1,5 +1,4 @@
 -- `rule_machining::machining::corner_rule` meets its contract.
-use borrow.Author.Needs.{needs}
 use native.Mathlib.Omega.{arith}
 use Rattle.rule_machining.proofs.RuleLaws.{corners-found}
 use Rattle.rule_corners.proofs.WalkLaws.{most}

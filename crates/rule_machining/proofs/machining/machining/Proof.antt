@@ -1,5 +1,4 @@
 -- `rule_machining::machining::machining` meets its contract: one rule after the other.
-use borrow.Author.Needs.{needs}
 use native.Mathlib.Omega.{arith}
 use Rattle.rule_machining.proofs.RuleLaws.{all-found}
 use Rattle.solid_faces.proofs.BodyLaws.{checked-faces}

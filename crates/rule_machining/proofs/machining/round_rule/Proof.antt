@@ -1,6 +1,4 @@
 -- `rule_machining::machining::round_rule` meets its contract.
-use borrow.Author.Needs.{needs}
-use native.Mathlib.Omega.{arith}
 use Rattle.rule_machining.proofs.RuleLaws.{rounds-found}
 use Rattle.rule_machining.proofs.machining.round_rule.Statement.{statement}
 use Rattle.rule_machining.proofs.machining.round_rule.Tie as tie

@@ -1,5 +1,4 @@
 -- `rule_machining::machining::wall_rule` meets its contract: readings, ranks, the sort, then the faults.
-use borrow.Author.Needs.{needs}
 use native.Mathlib.Omega.{arith}
 use Rattle.rule_machining.proofs.RuleLaws.{readings-there, walls-words, walls-reals, walls-found}
 use Rattle.rule_machining.proofs.machining.wall_rule.Statement.{statement}

@@ -1,0 +1,4 @@
+-- The edges of each face, in order.
+pub mod Tours
+pub mod Kept
+pub mod Work

@@ -1,0 +1,41 @@
+-- What the functions of this crate leave on the way. A reader may pass over it.
+use mathlib.Core.Path.{_≡_}
+use mathlib.Core.List.{List}
+use Prim.Native.Nat.{ℕ, _+_, _*_, _<_}
+use lib.Ieee.{Float, nan}
+use lib.ListN.{length, getD}
+use Rattle.list_laws.specs.Region.{Outside}
+use Rattle.list_groups.specs.Groups.{passing}
+use Rattle.list_groups.specs.Order.{WholeIs}
+use Rattle.file_part.specs.Part.{Part, partOf}
+use Rattle.solid_faces.specs.Faces.{facesOf}
+use Rattle.solid_edges.specs.Edges.{faceOfSide, faceBeyond, isEdge}
+use Rattle.scratch.specs.declared.regions.Regions.{Regions}
+use Rattle.solid_ranks.specs.Ranks.{rankOf}
+
+-- the keys of an edge under its own face, and under the face beyond
+unfoldable pub nearKey : Part → ℕ → ℕ
+nearKey t s = rankOf t (faceOfSide t s) * facesOf t + rankOf t (faceBeyond t s)
+
+unfoldable pub farKey : Part → ℕ → ℕ
+farKey t s = rankOf t (faceBeyond t s) * facesOf t + rankOf t (faceOfSide t s)
+
+-- the edges below s are kept, twice each, as m items
+pub record EdgesTo (t : Part) (at : Regions) (s m : ℕ) (words : List ℕ) (reals : List Float) : Type 0 where
+  pub count : m ≡ 2 * length (passing (isEdge t) s)
+  pub near-side : (e : ℕ) → e < length (passing (isEdge t) s) → getD words (at .items + 2 * e) 0 ≡ getD (passing (isEdge t) s) e 0
+  pub far-side : (e : ℕ) → e < length (passing (isEdge t) s) → getD words (at .items + (2 * e + 1)) 0 ≡ getD (passing (isEdge t) s) e 0
+  pub near-key : (e : ℕ) → e < length (passing (isEdge t) s) → WholeIs (nearKey t (getD (passing (isEdge t) s) e 0)) (getD reals (at .directions + 2 * e) nan)
+  pub far-key : (e : ℕ) → e < length (passing (isEdge t) s) → WholeIs (farKey t (getD (passing (isEdge t) s) e 0)) (getD reals (at .directions + (2 * e + 1)) nan)
+
+-- one side more
+pub record EdgePut (t : Part) (at : Regions) (s m : ℕ) (words words′ : List ℕ) (reals reals′ : List Float) (r : ℕ) : Type 0 where
+  pub more : EdgesTo t at s m words reals → EdgesTo t at (s + 1) r words′ reals′
+  pub words-kept : Outside 0 (at .items) (at .sorted) words words′
+  pub reals-kept : Outside nan (at .directions) (at .free) reals reals′
+
+-- all sides
+pub record AllPut (s : List ℕ) (at : Regions) (words words′ : List ℕ) (reals reals′ : List Float) (r : ℕ) : Type 0 where
+  pub put : EdgesTo (partOf s) at (partOf s .vertices) r words′ reals′
+  pub words-kept : Outside 0 (at .items) (at .sorted) words words′
+  pub reals-kept : Outside nan (at .directions) (at .free) reals reals′

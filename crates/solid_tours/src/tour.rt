@@ -1,0 +1,199 @@
+// A tour of the edges of one face, where they are sorted: its places, its neighbours one after the other, and distances from its edges.
+ghost use mathlib.Core.Path.{_≡_};
+ghost use Prim.Native.Nat.{_+_, _*_, _≤_, _<_};
+ghost use lib.IntN.{pos};
+ghost use lib.ListN.{getD};
+ghost use lib.Ieee.{binary64, ofInt};
+ghost use Rattle.file_part.specs.Part.{partOf};
+ghost use Rattle.solid_faces.specs.Faces.{facesOf};
+ghost use Rattle.solid_edges.specs.Distance.{edgeDistance, betweenDistance};
+ghost use Rattle.solid_tours.specs.Tours.{leastDistance};
+ghost use Rattle.solid_tours.specs.Kept.{itemCount, itemKey, keyStart, edgeOrder, sidesAt, EdgesOrdered, Counted, FacePlaces, RestPlaces, GroupPlaces, NextGroup, ItemAt};
+use crate::order::edge_key;
+use list_cells::cell;
+use list_groups::group_end;
+use math::Vec3;
+use scratch::regions::Regions;
+use solid_edges::distance::nearer;
+use solid_edges::edge::leads_to;
+
+// The sorted edges of a part: where they stand, and how many faces and items there are.
+pub struct Edges {
+    pub at: Regions,
+    pub faces: usize,
+    pub items: usize,
+}
+
+// Places of the order, from `start` to before `end`.
+pub struct Places {
+    pub start: usize,
+    pub end: usize,
+}
+
+// The edges between two faces: their places under the first.
+pub struct Group {
+    pub face: usize,
+    pub other: usize,
+    pub start: usize,
+    pub end: usize,
+}
+
+// The edge at place j.
+pub fn item_at(file: &[u8], words: &[u32], reals: &[f64], at: Regions, j: usize) -> usize
+    requires { ⌜ EdgesOrdered (now file) at (now words) (now reals) ⌝ ∗ ⌜ j < itemCount (partOf (now file)) ⌝ }
+    ensures { λ r. ⌜ ItemAt (partOf (now (file .entry))) at (now (words .entry)) j r ⌝ }
+{
+    let sorted = at.sorted;
+    let items = at.items;
+    cell(words, items + cell(words, sorted + j))
+}
+
+// The key of the item at place j.
+fn key_at(file: &[u8], words: &[u32], reals: &[f64], at: Regions, j: usize) -> f64
+    requires { ⌜ EdgesOrdered (now file) at (now words) (now reals) ⌝ ∗ ⌜ j < itemCount (partOf (now file)) ⌝ }
+    ensures { λ r. ⌜ r ≡ ofInt binary64 (pos (itemKey (partOf (now (file .entry))) (getD (edgeOrder at (now (words .entry))) j 0))) ⌝ }
+{
+    let sorted = at.sorted;
+    let keys = at.directions;
+    reals[keys + cell(words, sorted + j)]
+}
+
+// Where the items of the faces of rank r and above begin, by halving.
+fn rank_start(file: &[u8], words: &[u32], reals: &[f64], edges: Edges, r: usize) -> usize
+    requires { ⌜ EdgesOrdered (now file) (edges .at) (now words) (now reals) ⌝ ∗ ⌜ Counted (partOf (now file)) edges ⌝ ∗ ⌜ r ≤ edges .faces ⌝ }
+    ensures { λ p. ⌜ p ≡ keyStart (partOf (now (file .entry))) (r * facesOf (partOf (now (file .entry)))) ⌝ }
+{
+    let at = edges.at;
+    let key = edge_key(r, 0, edges.faces);
+    let mut low: usize = 0;
+    let mut high = edges.items;
+    while low < high {
+        let middle = low + (high - low) / 2;
+        if key_at(file, words, reals, at, middle) < key {
+            low = middle + 1;
+            continue;
+        }
+        high = middle;
+    }
+    low
+}
+
+// The places of the edges of face f.
+pub fn face_places(file: &[u8], words: &[u32], reals: &[f64], edges: Edges, f: usize) -> Places
+    requires { ⌜ EdgesOrdered (now file) (edges .at) (now words) (now reals) ⌝ ∗ ⌜ Counted (partOf (now file)) edges ⌝ ∗ ⌜ f < edges .faces ⌝ }
+    ensures { λ r. ⌜ FacePlaces (partOf (now (file .entry))) (edges .at) (now (words .entry)) f r ⌝ }
+{
+    let at = edges.at;
+    let r = cell(words, at.ranks + f);
+    Places {
+        start: rank_start(file, words, reals, edges, r),
+        end: rank_start(file, words, reals, edges, r + 1),
+    }
+}
+
+// The least distance of point p from the edges at these places.
+fn least_distance(
+    file: &[u8],
+    words: &[u32],
+    reals: &[f64],
+    at: Regions,
+    places: Places,
+    p: Vec3,
+) -> f64
+    requires { ⌜ EdgesOrdered (now file) at (now words) (now reals) ⌝ ∗ ⌜ places .start ≤ places .end ⌝ ∗ ⌜ places .end ≤ itemCount (partOf (now file)) ⌝ }
+    ensures { λ r. ⌜ r ≡ leastDistance (partOf (now (file .entry))) p (sidesAt (partOf (now (file .entry))) at (now (words .entry)) (places .start) (places .end)) ⌝ }
+{
+    let sides = at.sides;
+    let items = at.items;
+    let faces = at.faces;
+    let faces_end = at.readings;
+    let end = places.end;
+    let mut least = f64::from_bits(0x7ff0_0000_0000_0000);
+    let mut j = places.start;
+    while j < end {
+        let s = item_at(file, words, reals, at, j);
+        least = nearer(
+            file,
+            &words[sides..items],
+            &words[faces..faces_end],
+            p,
+            s,
+            least,
+        );
+        j += 1;
+    }
+    num_root::sqrt(least)
+}
+
+// The least distance of point p from the edges of face f; infinity where it has none.
+pub fn edge_distance(
+    file: &[u8],
+    words: &[u32],
+    reals: &[f64],
+    edges: Edges,
+    f: usize,
+    p: Vec3,
+) -> f64
+    requires { ⌜ EdgesOrdered (now file) (edges .at) (now words) (now reals) ⌝ ∗ ⌜ Counted (partOf (now file)) edges ⌝ ∗ ⌜ f < edges .faces ⌝ }
+    ensures { λ r. ⌜ r ≡ edgeDistance (partOf (now (file .entry))) f p ⌝ }
+{
+    let places = face_places(file, words, reals, edges, f);
+    least_distance(file, words, reals, edges.at, places, p)
+}
+
+// The same from the edges between two faces.
+pub fn between_distance(
+    file: &[u8],
+    words: &[u32],
+    reals: &[f64],
+    at: Regions,
+    group: Group,
+    p: Vec3,
+) -> f64
+    requires { ⌜ EdgesOrdered (now file) at (now words) (now reals) ⌝ ∗ ⌜ GroupPlaces (partOf (now file)) at (now words) group ⌝ }
+    ensures { λ r. ⌜ r ≡ betweenDistance (partOf (now (file .entry))) (group .face) (group .other) p ⌝ }
+{
+    let places = Places {
+        start: group.start,
+        end: group.end,
+    };
+    least_distance(file, words, reals, at, places, p)
+}
+
+// The next neighbour of face f, by rising ids, and the edges with it, from the first of the places that are left of the face.
+pub fn next_group(
+    file: &[u8],
+    words: &[u32],
+    reals: &[f64],
+    at: Regions,
+    f: usize,
+    rest: Places,
+) -> Group
+    requires { ⌜ EdgesOrdered (now file) at (now words) (now reals) ⌝ ∗ ⌜ f < facesOf (partOf (now file)) ⌝ }
+    requires { ⌜ RestPlaces (partOf (now file)) f rest ⌝ ∗ ⌜ rest .start < rest .end ⌝ }
+    ensures { λ r. ⌜ NextGroup (partOf (now (file .entry))) at (now (words .entry)) f rest r ⌝ }
+{
+    let sides = at.sides;
+    let items = at.items;
+    let faces = at.faces;
+    let faces_end = at.readings;
+    let sorted = at.sorted;
+    let sorted_end = at.chain;
+    let keys = at.directions;
+    let keys_end = at.free;
+    let start = rest.start;
+    let s = item_at(file, words, reals, at, start);
+    let other = leads_to(file, &words[sides..items], &words[faces..faces_end], f, s);
+    let end = group_end(
+        &reals[keys..keys_end],
+        &words[sorted..sorted_end],
+        rest.end,
+        start,
+    );
+    Group {
+        face: f,
+        other: other - 1,
+        start: start,
+        end: end,
+    }
+}
