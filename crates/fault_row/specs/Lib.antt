@@ -3,3 +3,4 @@ pub mod Names
 pub mod Fault
 pub mod Row
 pub mod Faults
+pub mod Summary

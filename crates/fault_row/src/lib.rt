@@ -1,3 +1,4 @@
-// What a fault is called, and the row that keeps one, on lent slices of numbers.
+// What a fault is called, the row that keeps one, on lent slices of numbers, and what is found beside faults.
 pub mod fault;
 pub mod row;
+pub mod summary;

@@ -9,8 +9,8 @@ use Rattle.file_part.specs.Part.{Part}
 use Rattle.fault_row.specs.Names.{severityOf}
 use Rattle.fault_row.specs.Row.{row}
 use Rattle.fault_text.specs.Kind.{noMaterial, material, notOneThickness, tightBend, shortFlange, sheetSmallHole, holeNearBend, holeNearEdge, sheetRule, ruleOf}
-use Rattle.fault_text.specs.Sheet.{noMaterialFault, materialFault, tightBendFault, shortFlangeFault, sheetSmallHoleFault, holeNearBendFault, holeNearEdgeFault, sheetText, sheetPrinted}
-use Rattle.fault_text.specs.Many.{manyFaces}
+use Rattle.fault_text.specs.Sheet.{noMaterialFault, materialFault, notOneThicknessFault, tightBendFault, shortFlangeFault, sheetSmallHoleFault, holeNearBendFault, holeNearEdgeFault, sheetText, sheetPrinted}
+use Rattle.fault_text.specs.Many.{offFaces, manyFaces}
 use Rattle.fault_text.specs.Meaning.{textOf, isOfTwo, isOfOne, facesOfRow, faultOf, printedOf}
 
 module _ (t : Part) where
@@ -24,6 +24,10 @@ module _ (t : Part) where
   material-row = refl
 
   -- its faces follow from the part
+  pub not-one-thickness-row : (lo hi thickness : Float) → faultOf t (row notOneThickness 0 1 0 0 0 lo hi thickness) ≡ notOneThicknessFault (offFaces t) lo hi thickness
+  unfolding faultOf severityOf ruleOf sheetRule textOf sheetText facesOfRow isOfTwo isOfOne manyFaces notOneThicknessFault
+  not-one-thickness-row lo hi thickness = refl
+
   pub tight-bend-row : (f g : ℕ) (radius minRadius : Float) → faultOf t (row tightBend 0 1 f g 0 radius minRadius zero) ≡ tightBendFault t f g radius minRadius
   unfolding faultOf severityOf ruleOf sheetRule textOf sheetText facesOfRow isOfTwo isOfOne manyFaces tightBendFault
   tight-bend-row f g radius minRadius = refl

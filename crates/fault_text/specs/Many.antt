@@ -9,8 +9,9 @@ use Rattle.solid_faces.specs.Faces.{facesOf, faceNumber}
 use Rattle.solid_ids.specs.Ids.{idOf}
 use Rattle.solid_bodies.specs.Body.{someBelow, bodyOf}
 use Rattle.solid_ranks.specs.Ranks.{faceOfRank}
+use Rattle.sheet_thickness.specs.Thickness.{isOffFace}
 use Rattle.fault_row.specs.declared.row.Row.{Row}
-use Rattle.fault_text.specs.Kind.{enclosedHollowSla, enclosedHollowSls}
+use Rattle.fault_text.specs.Kind.{notOneThickness, enclosedHollowSla, enclosedHollowSls}
 
 -- dfm.rs's `sort` and `dedup`: the ids of the faces that pass the test, of ranks below n, in rising order
 unfoldable pub idsTo : Part → (ℕ → Bool) → ℕ → List FaceId
@@ -25,8 +26,13 @@ faceOfBody t b f = someBelow (t .polygons) (λ p. eqb (faceNumber t p) f && eqb 
 unfoldable pub hollowFaces : Part → ℕ → List FaceId
 hollowFaces t b = idsTo t (faceOfBody t b) (facesOf t)
 
--- of a row: a is the lowest polygon of a hollow. (`notOneThickness` and `overhang` have many faces too: theirs come with the rules that yield these
--- kinds, as measures of the part that stand below this crate. None for the other kinds.)
+-- the faces of the readings that are off the thickness of the sheet
+unfoldable pub offFaces : Part → List FaceId
+offFaces t = idsTo t (isOffFace t) (facesOf t)
+
+-- of a row: a is the lowest polygon of a hollow. (`overhang` has many faces too: they come with the rule that yields this kind, as a measure of the part
+-- that stands below this crate. None for the other kinds.)
 unfoldable pub manyFaces : Part → Row → List FaceId
 manyFaces t row =
-    cond (eqb (row .kind) enclosedHollowSla) (hollowFaces t (row .a)) (cond (eqb (row .kind) enclosedHollowSls) (hollowFaces t (row .a)) [])
+    cond (eqb (row .kind) notOneThickness) (offFaces t)
+    (cond (eqb (row .kind) enclosedHollowSla) (hollowFaces t (row .a)) (cond (eqb (row .kind) enclosedHollowSls) (hollowFaces t (row .a)) []))

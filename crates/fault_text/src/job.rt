@@ -13,7 +13,7 @@ use num_text::put::put_bytes;
 const DEFAULT_MIN_WALL: f64 = 0.8;
 
 // Where the job stands: it and the trailer end the file.
-fn job_place(file: &[u8]) -> usize
+pub fn job_place(file: &[u8]) -> usize
     requires { ⌜ Checked (now file) ⌝ }
     ensures { λ r. ⌜ r ≡ entryAt (vertexCount (now (file .entry))) (polygonCount (now (file .entry))) ⌝ }
 {

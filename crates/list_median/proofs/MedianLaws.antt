@@ -34,7 +34,7 @@ pub weight-more : (weights : List Float) (xs : List ℕ) (k : ℕ) (x y : Float)
 weight-more weights xs k x y e f = rw (add-one, weight-suc weights xs k, e, f)
 
 -- by the first numbers only
-weight-same : (weights : List Float) (xs ys : List ℕ) (n : ℕ) → ((i : ℕ) → i < n → getD ys i 0 ≡ getD xs i 0) → weightTo weights ys n ≡ weightTo weights xs n
+pub weight-same : (weights : List Float) (xs ys : List ℕ) (n : ℕ) → ((i : ℕ) → i < n → getD ys i 0 ≡ getD xs i 0) → weightTo weights ys n ≡ weightTo weights xs n
 unfolding weightTo
 weight-same weights xs ys zero each = refl
 weight-same weights xs ys (suc n) each =

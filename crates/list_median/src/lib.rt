@@ -23,7 +23,7 @@ fn lesser(a: usize, b: usize) -> usize
 }
 
 // What a list has of pair k.
-fn of_pair(list: &[f64], mem: &[u32], k: usize) -> f64
+pub fn of_pair(list: &[f64], mem: &[u32], k: usize) -> f64
     requires { ⌜ k < length (now mem) ⌝ ∗ ⌜ getD (now mem) k 0 < length (now list) ⌝ }
     ensures { λ r. ⌜ r ≡ getD (now (list .entry)) (getD (now (mem .entry)) k 0) nan ⌝ }
 {
@@ -31,7 +31,7 @@ fn of_pair(list: &[f64], mem: &[u32], k: usize) -> f64
 }
 
 // The weights of the first n pairs, added.
-fn weight_sum(weights: &[f64], mem: &[u32], n: usize) -> f64
+pub fn weight_sum(weights: &[f64], mem: &[u32], n: usize) -> f64
     requires { ⌜ n ≤ length (now mem) ⌝ ∗ ⌜ Numbered (now weights) (now mem) 0 n ⌝ }
     ensures { λ r. ⌜ r ≡ weightTo (now (weights .entry)) (now (mem .entry)) n ⌝ }
 {

@@ -8,9 +8,11 @@
 -- Extents: extent-spread      the lowest height of a face along an axis is at most the highest, and both are bounded
 -- Rounds: round-bounds        radius, diameter, length and ratio of a round: finite, not negative, at most 2^27; its vectors too; rounds-bounds: each of them
 -- Volumes: volume-within      the volume of a body is at most 2^58 in size
+-- Limits: limit-accepted, gap-accepted       what passes dfm.rs's test x + 1e-9 < limit is a number that is printed, and so is `gap.max(0.0)`
 pub mod EachLaws
 pub mod Readings
 pub mod Totals
 pub mod Extents
 pub mod Rounds
 pub mod Volumes
+pub mod Limits

@@ -33,7 +33,7 @@ unfolding thicknesses
 thicknesses-length [] = refl
 thicknesses-length (r ∷ l) = ap suc (thicknesses-length l)
 
-thickness-at : (l : List Reading) (i : ℕ) → i < length l → getD (thicknesses l) i nan ≡ reading l i .thickness
+pub thickness-at : (l : List Reading) (i : ℕ) → i < length l → getD (thicknesses l) i nan ≡ reading l i .thickness
 unfolding thicknesses
 thickness-at [] i h = absurd (omega (arith, h))
 thickness-at (r ∷ l) zero h = refl

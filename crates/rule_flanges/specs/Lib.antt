@@ -1,0 +1,3 @@
+-- The flanges of a sheet.
+pub mod Flanges
+pub mod Work

@@ -1,0 +1,270 @@
+-- The rules on one hole, and the loop over the faces.
+use mathlib.Core.Path.{_≡_, refl, sym, ap, ap₂, _∙_, subst}
+use mathlib.Core.Bool.{Bool, true, false, _&&_, cond}
+use mathlib.Core.List.{List, [], _∷_, _++_, append-nil}
+use Prim.Native.Nat.{ℕ, _+_, _*_, _^_, _≤_, _<_}
+use native.Mathlib.Numerals.{add-one}
+use native.Mathlib.Omega.{arith}
+use borrow.Author.Tests.{eq-eqb, ne-eqb}
+use lib.Dec.{lit<}
+use lib.ListN.{length, getD}
+use lib.Ieee.{Float, binary64, add, lt}
+use Rattle.num_float.specs.Sign.{NonNeg}
+use Rattle.num_float.specs.Within.{Within}
+use Rattle.num_real.specs.Select.{maxOf}
+use Rattle.num_text.specs.Decimal.{accepted}
+use Rattle.num_text.proofs.NeverRefused.{accepted-at}
+use Rattle.math.specs.Vector.{zero}
+use Rattle.list_groups.specs.Groups.{joined}
+use Rattle.list_groups.proofs.Flat.{joined-suc, joined-none}
+use Rattle.file_part.specs.Part.{Part, partOf}
+use Rattle.solid_faces.specs.Faces.{facesOf}
+use Rattle.scratch.specs.declared.regions.Regions.{Regions}
+use Rattle.wall_ray.specs.Strike.{e-9}
+use Rattle.round_all.specs.declared.round.Round.{Round}
+use Rattle.round_all.specs.Round.{isRound, isHole, roundOf}
+use Rattle.round_all.specs.Kept.{roundKind}
+use Rattle.round_all.proofs.PutLaws.{face-low}
+use Rattle.round_all.proofs.RoundLaws.{kind-at, kind-round, kind-hole}
+use Rattle.measure_sizes.specs.Reading.{ReadingBounds}
+use Rattle.measure_sizes.specs.Round.{diameterOf, RoundBounds}
+use Rattle.measure_sizes.proofs.Rounds.{round-bounds}
+use Rattle.measure_sizes.proofs.Limits.{gap-accepted}
+use Rattle.sheet_bends.specs.declared.Sheet.{Sheet}
+use Rattle.sheet_bends.specs.Bends.{isBendFace}
+use Rattle.sheet_bends.specs.Kept.{SheetStands}
+use Rattle.fault_row.specs.Fault.{Fault}
+use Rattle.fault_row.specs.Row.{row, RowPut}
+use Rattle.fault_row.specs.Faults.{FaultsPut}
+use Rattle.fault_row.proofs.FaultLaws.{faults-none, faults-one, faults-then, faults-same}
+use Rattle.fault_text.specs.Kind.{sheetSmallHole, holeNearBend, holeNearEdge}
+use Rattle.fault_text.specs.Sheet.{sheetSmallHoleFault}
+use Rattle.fault_text.specs.Meaning.{faultOf, GoodRow}
+use Rattle.fault_text.proofs.MeaningLaws.{good-row}
+use Rattle.fault_text.proofs.SheetLaws.{sheet-small-hole-row, hole-near-bend-row, hole-near-edge-row, sheet-small-hole-printed, hole-near-bend-printed, hole-near-edge-printed}
+use Rattle.rule_holes.specs.declared.nearest.Nearest.{Nearest}
+use Rattle.rule_holes.specs.declared.holes.Limits.{Limits}
+use Rattle.rule_holes.specs.Nearest.{nearestOf}
+use Rattle.rule_holes.specs.Holes.{minHole, smallHole, needOf, tooCloseFault, gapFault, closeFault, holeFaults, sheetHoles}
+use Rattle.rule_holes.specs.Work.{LimitsOf, SmallPut, ClosePut, HolesTo}
+use Rattle.rule_holes.proofs.LimitLaws.{least-accepted, need-is, need-within, need-nonneg}
+
+-- ---- a small hole
+module _ (hole : Round) (least : Float) where
+  abbrev d : Float
+  d = diameterOf hole
+
+  module _ (t : Part) (thick : Float) (e : least ≡ minHole t thick) (is : hole ≡ roundOf t (hole .face)) where
+    small-is : (b : Bool) → lt (add binary64 d e-9) least ≡ b → cond b (sheetSmallHoleFault t (hole .face) d least ∷ []) [] ≡ smallHole t thick (hole .face)
+    unfolding smallHole
+    small-is b h =
+        sym (ap (λ (c : Bool). cond c (sheetSmallHoleFault t (hole .face) d least ∷ []) []) h)
+        ∙ ap₂ (λ (r : Round) (x : Float). cond (lt (add binary64 (diameterOf r) e-9) x) (sheetSmallHoleFault t (hole .face) (diameterOf r) x ∷ []) []) is e
+
+  pub small-none : {from : ℕ} {cells : List ℕ} {numbers : List Float} → lt (add binary64 d e-9) least ≡ false → SmallPut hole least from cells cells numbers numbers from
+  small-none {from} {cells} {numbers} h =
+      record { few = omega arith; put = λ t thick e is b w low. faults-same (small-is t thick e is false h) (faults-none from cells numbers) }
+
+  pub small-one : {from r : ℕ} {cells cells′ : List ℕ} {numbers numbers′ : List Float} → lt (add binary64 d e-9) least ≡ true →
+      RowPut from (row sheetSmallHole 1 1 (hole .face) 0 0 d least zero) cells cells′ numbers numbers′ r → SmallPut hole least from cells cells′ numbers numbers′ r
+  small-one h p =
+      record {
+        few = omega (arith, p .count);
+        put = λ t thick e is b w low.
+            faults-same (small-is t thick e is true h)
+            (faults-one (sheetSmallHoleFault t (hole .face) d least) p (sheet-small-hole-row t (hole .face) d least)
+            (good-row t sheetSmallHole 1 (hole .face) 0 d least zero (omega arith) (omega arith) (omega arith) low (omega (arith, low))
+            (sheet-small-hole-printed t (hole .face) d least (accepted-at d 20000 2 (w .diameter-nonneg) (w .diameter-within) (lit< tt) (omega arith))
+            (subst (λ (x : Float). accepted x 2 ≡ true) (sym e) (least-accepted thick b t)))));
+      }
+
+-- ---- a hole that is too close
+abbrev kindOf : Bool → ℕ
+kindOf near = cond near 14 15
+
+close-row : (t : Part) (near : Bool) (f g : ℕ) (x need : Float) → faultOf t (row (kindOf near) 1 1 f g 0 x need zero) ≡ tooCloseFault t near f g x need
+unfolding tooCloseFault
+close-row t true f g x need = hole-near-bend-row t f g x need
+close-row t false f g x need = hole-near-edge-row t f g x need
+
+close-good : (t : Part) (near : Bool) (f g : ℕ) (x need : Float) → f < facesOf t → g < facesOf t → accepted x 2 ≡ true → accepted need 2 ≡ true →
+    GoodRow t (row (kindOf near) 1 1 f g 0 x need zero)
+close-good t true f g x need lf lg ax an =
+    good-row t holeNearBend 1 f g x need zero (omega arith) (omega arith) (omega arith) lf lg (hole-near-bend-printed t f g x need ax an)
+close-good t false f g x need lf lg ax an =
+    good-row t holeNearEdge 1 f g x need zero (omega arith) (omega arith) (omega arith) lf lg (hole-near-edge-printed t f g x need ax an)
+
+module _ (near : Bool) (need : Float) (h : ℕ) (n : Nearest) where
+  abbrev gap : Float
+  gap = maxOf (n .gap) zero
+
+  close-is : (t : Part) (b : Bool) → lt (add binary64 (n .gap) e-9) need ≡ b → cond b (tooCloseFault t near h (n .other) gap need ∷ []) [] ≡ gapFault t near need h n
+  unfolding gapFault
+  close-is t b e = sym (ap (λ (c : Bool). cond c (tooCloseFault t near h (n .other) gap need ∷ []) []) e)
+
+  pub close-none : {from : ℕ} {cells : List ℕ} {numbers : List Float} → lt (add binary64 (n .gap) e-9) need ≡ false → ClosePut near need h n from cells cells numbers numbers from
+  close-none {from} {cells} {numbers} e =
+      record { few = omega arith; put = λ t w lh lo p. faults-same (close-is t false e) (faults-none from cells numbers) }
+
+  pub close-one : (kind : ℕ) (x : Float) {from r : ℕ} {cells cells′ : List ℕ} {numbers numbers′ : List Float} → lt (add binary64 (n .gap) e-9) need ≡ true → kind ≡ kindOf near → x ≡ gap →
+      RowPut from (row kind 1 1 h (n .other) 0 x need zero) cells cells′ numbers numbers′ r → ClosePut near need h n from cells cells′ numbers numbers′ r
+  close-one kind x {from} {r} {cells} {cells′} {numbers} {numbers′} e ek ex p =
+      let q : RowPut from (row (kindOf near) 1 1 h (n .other) 0 gap need zero) cells cells′ numbers numbers′ r
+      = subst (λ (y : Float). RowPut from (row (kindOf near) 1 1 h (n .other) 0 y need zero) cells cells′ numbers numbers′ r) ex
+      (subst (λ (k : ℕ). RowPut from (row k 1 1 h (n .other) 0 x need zero) cells cells′ numbers numbers′ r) ek p) in
+      record {
+        few = omega (arith, p .count);
+        put = λ t w lh lo nonneg.
+            faults-same (close-is t true e)
+            (faults-one (tooCloseFault t near h (n .other) gap need) q (close-row t near h (n .other) gap need)
+            (close-good t near h (n .other) gap need lh lo (gap-accepted (n .gap) need (2 ^ 20) e w (lit< tt)) (accepted-at need (2 ^ 20) 2 nonneg w (lit< tt) (omega arith))));
+      }
+
+-- ---- both rules on one hole
+module _ (s : List ℕ) (sheet : Sheet) (words : List ℕ) (reals : List Float) (stands : SheetStands s sheet words reals) (b : ReadingBounds (sheet .thickness)) (limits : Limits)
+    (l : LimitsOf (partOf s) (sheet .thickness) limits) (hole : Round) (low : hole .face < facesOf (partOf s)) (is : hole ≡ roundOf (partOf s) (hole .face))
+    (round : isRound (partOf s) (hole .face) ≡ true) (whole : isHole (partOf s) (hole .face) ≡ true) where
+  abbrev t : Part
+  t = partOf s
+
+  abbrev thick : Float
+  thick = sheet .thickness
+
+  abbrev f : ℕ
+  f = hole .face
+
+  abbrev Puts : ℕ → List Fault → List ℕ → List ℕ → List Float → List Float → ℕ → Type 0
+  Puts from = FaultsPut (faultOf t) (GoodRow t) from
+
+  small-put : {from k : ℕ} {c c′ : List ℕ} {n n′ : List Float} → SmallPut hole (limits .hole) from c c′ n n′ k → Puts from (smallHole t thick f) c c′ n n′ k
+  small-put p = p .put t thick (l .hole) is b (subst RoundBounds (sym is) (round-bounds s (stands .ordered .standing .placed .checked) f low round)) low
+
+  module _ (near : Nearest) (en : near ≡ nearestOf t hole) where
+    both : smallHole t thick f ++ closeFault t thick f near ≡ holeFaults t thick f
+    unfolding holeFaults
+    both =
+        ap (λ (x : Nearest). smallHole t thick f ++ closeFault t thick f x) (en ∙ ap (nearestOf t) is)
+        ∙ sym (ap₂ (λ (x y : Bool). cond (x && y) (smallHole t thick f ++ closeFault t thick f (nearestOf t (roundOf t f))) []) round whole)
+
+    -- nothing is near
+    pub hole-alone : {from k : ℕ} {c c′ : List ℕ} {n n′ : List Float} → near .found ≡ false → SmallPut hole (limits .hole) from c c′ n n′ k →
+        Puts from (holeFaults t thick f) c c′ n n′ k
+    unfolding closeFault
+    hole-alone e p =
+        let none : closeFault t thick f near ≡ []
+        = ap (λ (c : Bool). cond c (gapFault t (isBendFace t thick (near .other)) (needOf t thick (isBendFace t thick (near .other))) f near) []) e in
+        faults-same (sym (append-nil (smallHole t thick f)) ∙ ap (λ (x : List Fault). smallHole t thick f ++ x) (sym none) ∙ both) (small-put p)
+
+    -- something is
+    module _ (found : near .found ≡ true) (bend : Bool) (eb : bend ≡ isBendFace t thick (near .other)) (need : Float) (ed : need ≡ cond bend (limits .bend) (limits .edge))
+        (there : near .other < facesOf t) where
+      need-of : need ≡ needOf t thick bend
+      need-of = need-is t thick limits bend need l ed
+
+      close : gapFault t bend need f near ≡ closeFault t thick f near
+      unfolding closeFault
+      close =
+          ap (λ (x : Float). gapFault t bend x f near) need-of
+          ∙ ap (λ (c : Bool). gapFault t c (needOf t thick c) f near) eb
+          ∙ sym (ap (λ (c : Bool). cond c (gapFault t (isBendFace t thick (near .other)) (needOf t thick (isBendFace t thick (near .other))) f near) []) found)
+
+      pub hole-close : {from k r : ℕ} {c c′ c″ : List ℕ} {n n′ n″ : List Float} → SmallPut hole (limits .hole) from c c′ n n′ k → ClosePut bend need f near k c′ c″ n′ n″ r →
+          Puts from (holeFaults t thick f) c c″ n n″ r
+      hole-close p q =
+          let checked = stands .ordered .standing .placed .checked in
+          let w : Within need (2 ^ 20) = subst (λ (x : Float). Within x (2 ^ 20)) (sym need-of) (need-within thick b s checked bend) in
+          let nonneg : NonNeg need = subst NonNeg (sym need-of) (need-nonneg thick b s checked bend) in
+          faults-same (ap (λ (x : List Fault). smallHole t thick f ++ x) close ∙ both) (faults-then (small-put p) (q .put t w low there nonneg))
+
+-- ---- the loop over the faces
+pub holes-start : (t : Part) (thick : Float) (from : ℕ) (cells : List ℕ) (numbers : List Float) → HolesTo t thick 0 from cells cells numbers numbers from
+holes-start t thick from cells numbers =
+    record { few = omega arith; put = faults-same (sym (joined-none (holeFaults t thick))) (faults-none from cells numbers) }
+
+pub holes-end : (t : Part) (thick : Float) {f from r : ℕ} {cells cells′ : List ℕ} {numbers numbers′ : List Float} → f ≡ facesOf t → HolesTo t thick f from cells cells′ numbers numbers′ r →
+    FaultsPut (faultOf t) (GoodRow t) from (sheetHoles t thick) cells cells′ numbers numbers′ r
+unfolding sheetHoles
+holes-end t thick e p = faults-same (ap (joined (holeFaults t thick)) e) (p .put)
+
+-- which faces are holes
+kind-none : (t : Part) (f : ℕ) → (roundKind t f ≡ 3 → ⊥) → (isRound t f && isHole t f) ≡ false
+kind-none t f h = go (isRound t f) refl
+  where
+    go : (b : Bool) → isRound t f ≡ b → (b && isHole t f) ≡ false
+    go true e = sym (kind-hole t f e) ∙ ne-eqb (roundKind t f) 3 h
+    go false e = refl
+
+faults-of-none : (t : Part) (thick : Float) (f : ℕ) → (isRound t f && isHole t f) ≡ false → holeFaults t thick f ≡ []
+unfolding holeFaults
+faults-of-none t thick f e = ap (λ (c : Bool). cond c (smallHole t thick f ++ closeFault t thick f (nearestOf t (roundOf t f))) []) e
+
+round-face : (t : Part) (f : ℕ) → roundOf t f .face ≡ f
+unfolding roundOf
+round-face t f = refl
+
+module _ (s : List ℕ) (sheet : Sheet) (words : List ℕ) (reals : List Float) (stands : SheetStands s sheet words reals) (f : ℕ) (inside : f < sheet .edges .faces) where
+  abbrev at : Regions
+  at = sheet .edges .at
+
+  pub low-face : f < facesOf (partOf s)
+  low-face = omega (arith, inside, stands .counted .faces)
+
+  below : (f < at .polygons) × (f < 1024)
+  below = face-low s at f (stands .ordered .standing .placed) low-face
+
+  pub kind-room : at .kinds + f < length words
+  kind-room = omega (arith, below, stands .ordered .standing .placed .laid, stands .ordered .standing .words-room)
+
+  small : at .kinds + f < 1048576
+  small = omega (arith, below, stands .ordered .standing .placed .laid)
+
+  pub kind-fits : at .kinds + f < 2 ^ 64
+  kind-fits = omega (arith, small)
+
+  pub kind-bytes : (at .kinds + f) * 4 < 2 ^ 64
+  kind-bytes = omega (arith, small)
+
+  kind-is : getD words (at .kinds + f) 0 ≡ roundKind (partOf s) f
+  kind-is = kind-at (partOf s) at words reals f (stands .ordered .standing .placed .laid) (stands .rounds) low-face (below .0)
+
+  module _ (k : getD words (at .kinds + f) 0 ≡ 3) where
+    pub hole-round : isRound (partOf s) f ≡ true
+    hole-round = kind-round (partOf s) f (λ e. omega (arith, e, kind-is, k))
+
+    hole-whole : isHole (partOf s) f ≡ true
+    hole-whole = sym (kind-hole (partOf s) f hole-round) ∙ eq-eqb (roundKind (partOf s) f) 3 (sym kind-is ∙ k)
+
+    -- in the words of `put_hole`
+    pub hole-there : (hole : Round) → hole ≡ roundOf (partOf s) f →
+        (hole .face < facesOf (partOf s)) × (hole ≡ roundOf (partOf s) (hole .face)) × (isRound (partOf s) (hole .face) ≡ true) × (isHole (partOf s) (hole .face) ≡ true)
+    hole-there hole e =
+        let face : f ≡ hole .face = sym (ap (λ (x : Round). x .face) e ∙ round-face (partOf s) f) in (
+          subst (λ (g : ℕ). g < facesOf (partOf s)) face low-face,
+          e ∙ ap (roundOf (partOf s)) face,
+          subst (λ (g : ℕ). isRound (partOf s) g ≡ true) face hole-round,
+          subst (λ (g : ℕ). isHole (partOf s) g ≡ true) face hole-whole,
+        )
+
+    pub holes-next : (thick : Float) (hole : Round) {from k r : ℕ} {c c′ c″ : List ℕ} {n n′ n″ : List Float} → hole ≡ roundOf (partOf s) f →
+        HolesTo (partOf s) thick f from c c′ n n′ k → FaultsPut (faultOf (partOf s)) (GoodRow (partOf s)) k (holeFaults (partOf s) thick (hole .face)) c′ c″ n′ n″ r →
+        r ≤ k + 2 → HolesTo (partOf s) thick (f + 1) from c c″ n n″ r
+    holes-next thick hole e p q few =
+        let face : hole .face ≡ f = ap (λ (x : Round). x .face) e ∙ round-face (partOf s) f in
+        record {
+          few = omega (arith, few, p .few);
+          put = faults-same (sym (joined-suc (holeFaults (partOf s) thick) f) ∙ ap (joined (holeFaults (partOf s) thick)) (sym (add-one f)))
+              (faults-then (p .put) (faults-same (ap (holeFaults (partOf s) thick) face) q));
+        }
+
+  -- a face that is none
+  pub holes-pass : (thick : Float) {from k : ℕ} {c c′ : List ℕ} {n n′ : List Float} → (getD words (at .kinds + f) 0 ≡ 3 → ⊥) →
+      HolesTo (partOf s) thick f from c c′ n n′ k → HolesTo (partOf s) thick (f + 1) from c c′ n n′ k
+  holes-pass thick not p =
+      let none : holeFaults (partOf s) thick f ≡ [] = faults-of-none (partOf s) thick f (kind-none (partOf s) f (λ e. not (kind-is ∙ e))) in
+      record {
+        few = omega (arith, p .few);
+        put = faults-same
+            (sym (append-nil (joined (holeFaults (partOf s) thick) f)) ∙ ap (λ (x : List Fault). joined (holeFaults (partOf s) thick) f ++ x) (sym none)
+            ∙ sym (joined-suc (holeFaults (partOf s) thick) f) ∙ ap (joined (holeFaults (partOf s) thick)) (sym (add-one f)))
+            (p .put);
+      }

@@ -1,0 +1,4 @@
+-- The bends of a sheet.
+pub mod Bends
+pub mod Kept
+pub mod Work

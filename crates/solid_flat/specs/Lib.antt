@@ -1,0 +1,2 @@
+-- Flat faces.
+pub mod Flat
