@@ -1,6 +1,6 @@
 //! The polygons of a part file as a list, to be read, changed and written again.
 #![allow(dead_code)]
-use crate::field::{set_word, word, Blocks};
+use crate::field::{set_real, set_word, word, Blocks};
 use crate::sample;
 
 pub const MOST_VERTICES: usize = 16_384;
@@ -89,6 +89,13 @@ impl Mesh {
 
     pub fn vertices(&self) -> usize {
         self.polygons.iter().map(|p| p.points.len()).sum()
+    }
+
+    /// Of the cylinders of a face.
+    pub fn set_radius(&mut self, face: (u32, u32), radius: f64) {
+        for polygon in self.polygons.iter_mut().filter(|p| p.face() == face && word(&p.entry, 16) == 1) {
+            set_real(&mut polygon.entry, 72, radius);
+        }
     }
 
     /// Within the counts and the coordinates that document 01 allows.

@@ -96,6 +96,20 @@ mod c {
             numbers: *mut f64,
             numbers_len: usize,
         ) -> u32;
+        pub fn gablemadder_sheet_metal(
+            file: *const u8,
+            len: usize,
+            words: *mut u32,
+            words_len: usize,
+            reals: *mut f64,
+            reals_len: usize,
+            cells: *mut u32,
+            cells_len: usize,
+            numbers: *mut f64,
+            numbers_len: usize,
+            summary: *mut f64,
+            summary_len: usize,
+        ) -> u32;
         pub fn gablemadder_message(
             file: *const u8,
             len: usize,
@@ -233,6 +247,13 @@ pub fn open_towards(file: &[u8], words: &mut [u32], reals: &mut [f64], rays: &[f
 pub fn machining(file: &[u8], words: &mut [u32], reals: &mut [f64], cells: &mut [u32], numbers: &mut [f64]) -> u32 {
     let (w, r, c, n) = (words.as_mut_ptr(), reals.as_mut_ptr(), cells.as_mut_ptr(), numbers.as_mut_ptr());
     unsafe { c::gablemadder_machining(file.as_ptr(), file.len(), w, words.len(), r, reals.len(), c, cells.len(), n, numbers.len()) }
+}
+
+/// The same by the rules of sheet metal; the summary is 1 where the part has a thickness, it, and the number of bends. 0 where it is shorter.
+pub fn sheet_metal(file: &[u8], words: &mut [u32], reals: &mut [f64], cells: &mut [u32], numbers: &mut [f64], summary: &mut [f64]) -> u32 {
+    let (w, r, c, n, s) = (words.as_mut_ptr(), reals.as_mut_ptr(), cells.as_mut_ptr(), numbers.as_mut_ptr(), summary.as_mut_ptr());
+    let (words, reals, cells, numbers) = (words.len(), reals.len(), cells.len(), numbers.len());
+    unsafe { c::gablemadder_sheet_metal(file.as_ptr(), file.len(), w, words, r, reals, c, cells, n, numbers, s, summary.len()) }
 }
 
 /// The length of the text of a fault's row; what of it falls past the end of `out` is not written.

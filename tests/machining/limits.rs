@@ -6,7 +6,6 @@ use crate::random::Random;
 use crate::sample::{self, GOOD_FLAGS};
 use crate::shapes::{block, nudge, pick, shuffle};
 use oracle::measures::Measures;
-use std::collections::{HashMap, HashSet};
 
 /// Two polygons on one side, the second inclined so little, or reaching so little above the first, that it hangs on a rounding whether they make a
 /// corner; in a hollow, so that nothing is open.
@@ -77,34 +76,6 @@ pub fn fit_rounds(random: &mut Random, mesh: &mut Mesh) {
         let limits = [0.5, 0.5, 0.125, 0.375, r.length / 8.0, r.length / 20.0, r.length / 8.5, r.length / 20.5];
         let limit = pick(random, &limits);
         let radius = beside(random, limit).clamp(0.001, 1e4);
-        let of_face = |entry: &[u8]| (word(entry, 0), word(entry, 4), word(entry, 16)) == (r.id.feature, r.id.index, 1);
-        let polygons = mesh.polygons.iter_mut().filter(|p| of_face(&p.entry));
-        polygons.for_each(|p| set_real(&mut p.entry, 72, radius));
-    }
-}
-
-/// Other ids for the faces, one for one: in any order, alike in one of the two numbers, up to the largest.
-pub fn rename(random: &mut Random, mesh: &mut Mesh) {
-    let way = random.below(5);
-    let (mut given, mut taken) = (HashMap::new(), HashSet::new());
-    for polygon in &mut mesh.polygons {
-        let id = *given.entry(polygon.face()).or_insert_with(|| loop {
-            let id = draw_id(random, way);
-            if taken.insert(id) {
-                break id;
-            }
-        });
-        polygon.set_face(id);
-    }
-}
-
-fn draw_id(random: &mut Random, way: u64) -> (u32, u32) {
-    let any = random.next() as u32;
-    match way {
-        0 => (any, 0),
-        1 => (u32::MAX, any),
-        2 => (u32::MAX - any % 3, u32::MAX - random.below(2000) as u32),
-        3 => (random.below(3) as u32, any % 2000),
-        _ => (pick(random, &[0, 1, 1 << 31, (1 << 31) - 1, u32::MAX]), any),
+        mesh.set_radius((r.id.feature, r.id.index), radius);
     }
 }

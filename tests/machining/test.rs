@@ -4,10 +4,18 @@
 mod bores;
 #[path = "../body/change.rs"]
 mod change;
+#[path = "../rules/compare.rs"]
+mod compare;
+#[path = "../rules/counts.rs"]
+mod counts;
 #[path = "../part/field.rs"]
 mod field;
+#[path = "../rules/frame.rs"]
+mod frame;
 #[path = "../lib/gablemadder.rs"]
 mod gablemadder;
+#[path = "../rules/ids.rs"]
+mod ids;
 #[path = "../body/layout.rs"]
 mod layout;
 #[path = "../lib/lent.rs"]
@@ -18,6 +26,8 @@ mod mesh;
 mod random;
 #[path = "../body/regions.rs"]
 mod regions;
+#[path = "../rules/rows.rs"]
+mod rows;
 #[path = "../part/sample.rs"]
 mod sample;
 #[path = "../body/scratch.rs"]
@@ -31,56 +41,23 @@ mod tally;
 #[path = "../rays/walls.rs"]
 mod walls;
 
-mod compare;
 mod limits;
-mod rows;
 mod seen;
 mod voxels;
 
 use compare::Compare;
 use mesh::Mesh;
 use random::Random;
-use std::io;
-use std::thread;
-
-const LEAST: u64 = 200_000;
-/// Changed copies of larger files cost more than they show.
-const LARGE: usize = 100_000;
+use seen::Machining;
 
 fn main() {
-    let quick = std::env::args().any(|a| a == "--quick");
-    let (own, rounds) = if quick { (3_000, 1) } else { (70_000, 2) };
-    let own = thread::spawn(move || {
-        let mut c = Compare::new(23);
-        own_shapes(&mut c, own);
-        many_faults(&mut c, rounds);
-        c
-    });
-    let mut c = Compare::new(24);
-    from_input(&mut c).expect("a stream of part files");
-    let own = own.join().expect("a test thread failed");
-    let files = own.tally.compared + c.tally.compared;
-    let different = own.tally.different + c.tally.different;
-    let seen = own.seen.and(c.seen);
-    println!("machining: {}", seen.text());
-    let rare = seen.too_rare();
-    let few = !quick && (files < LEAST || !rare.is_empty());
-    if few {
-        println!("machining: fewer than {LEAST} files, or too rare: {}", rare.join("; "));
-    }
-    println!("machining: {files} files, {} of them accepted, {different} differences", seen.count("accepted"));
-    std::process::exit((different != 0 || few) as i32);
+    frame::run::<Machining>("machining", 23, own, changed)
 }
 
-/// Generated files, as they are and changed.
-fn from_input(c: &mut Compare) -> io::Result<()> {
-    let mut random = Random(25);
-    stream::each(|number, file| {
-        if c.check(file, || format!("generated file {number}")) == 0 && file.len() < LARGE {
-            let changed = changed(&mut random, &Mesh::read(file));
-            c.check(&changed.bytes(), || format!("generated file {number}, changed"));
-        }
-    })
+fn own(c: &mut Compare<Machining>, quick: bool) {
+    let (shapes, rounds) = if quick { (3_000, 1) } else { (70_000, 2) };
+    own_shapes(c, shapes);
+    many_faults(c, rounds);
 }
 
 /// With another job, other ids, a value at a limit or another shape.
@@ -93,7 +70,7 @@ fn changed(random: &mut Random, mesh: &Mesh) -> Mesh {
         _ => {}
     }
     if random.below(2) == 0 {
-        limits::rename(random, &mut copy);
+        ids::rename(random, &mut copy);
     }
     copy
 }
@@ -115,7 +92,7 @@ fn draw(random: &mut Random) -> Mesh {
     mesh
 }
 
-fn own_shapes(c: &mut Compare, count: u64) {
+fn own_shapes(c: &mut Compare<Machining>, count: u64) {
     let mut random = Random(26);
     for number in 0..count {
         let mesh = draw(&mut random);
@@ -126,7 +103,7 @@ fn own_shapes(c: &mut Compare, count: u64) {
 }
 
 /// About as many as there are rows at the most, and more.
-fn many_faults(c: &mut Compare, rounds: u64) {
+fn many_faults(c: &mut Compare<Machining>, rounds: u64) {
     for _ in 0..rounds {
         for (pits, not_plane) in [(682, 0), (683, 1), (684, 2), (683, 0), (1024, 0)] {
             c.check(&voxels::pits(pits, not_plane).bytes(), || format!("{pits} pits"));

@@ -1,8 +1,10 @@
-//! What the Rust measures of a body: its thickness readings, its rounds, and what a ray hits; each list in the Rust's own order.
+//! What the Rust measures of a body: its thickness readings, its rounds, what a ray hits, and what lies next to a face; each list in the Rust's own
+//! order.
 use crate::dfm;
+pub use crate::dfm::seg_distance;
 pub use crate::dfm::{Hit, Sample};
 use crate::math::Vec3;
-use crate::solid::{FaceId, Solid};
+use crate::solid::{FaceId, Polygon, Solid};
 
 /// All fields of the Rust's own but `coverage`, for which the test stands that it is there for.
 pub struct Round {
@@ -16,6 +18,9 @@ pub struct Round {
     pub length: f64,
     pub centre: Vec3,
 }
+
+/// The segments between a face and one next to it.
+pub type Segments = Vec<[Vec3; 2]>;
 
 pub struct Measures<'a>(dfm::Part<'a>);
 
@@ -47,6 +52,17 @@ impl Measures<'_> {
 
     pub fn is_open(&self, p: Vec3, dir: Vec3) -> bool {
         self.0.open_towards(p, dir)
+    }
+
+    /// The faces next to this one, each with the segments between.
+    pub fn neighbours(&self, id: FaceId) -> Vec<(FaceId, &Segments)> {
+        self.0.neighbours(id).collect()
+    }
+
+    /// The polygons of a face, in the order of the part.
+    pub fn polygons(&self, id: FaceId) -> Vec<&Polygon> {
+        let face = self.0.faces.iter().find(|f| f.id == id);
+        face.map_or(Vec::new(), |f| f.polys.iter().map(|p| &self.0.body.polygons[*p]).collect())
     }
 
     /// What `sheet_metal` takes for the thickness at first.

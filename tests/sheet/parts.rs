@@ -1,0 +1,53 @@
+//! Parts to time, each with a name: plates and brackets with holes and bends, of about 200, 800 and 3,200 polygons.
+use crate::file;
+use crate::job::{Job, Material, SHEET};
+use crate::part::Part;
+use crate::plate::{cuts, Cell};
+use crate::ring::Ring;
+use crate::sheet::{Run, Strip};
+
+const THICK: f64 = 2.0;
+const WIDTH: f64 = 12.0;
+
+/// A strip through so many bends, its flat pieces so many cells wide, of which some have a hole.
+struct Plan {
+    name: &'static str,
+    bends: usize,
+    cells: usize,
+    holes: usize,
+}
+
+impl Plan {
+    fn file(&self) -> (String, Vec<u8>) {
+        let mut runs = vec![Run::Straight(WIDTH)];
+        for k in 0..self.bends {
+            runs.push(Run::Bend(1.5, 0.25, 4, k % 2 == 0));
+            // the last flange is short
+            runs.push(Run::Straight(if k + 1 == self.bends { 3.0 * THICK } else { WIDTH }));
+        }
+        let (mut part, mut left) = (Part::default(), self.holes);
+        let zs = cuts(&vec![WIDTH; self.cells]);
+        Strip::new(&runs, THICK, THICK).build(&mut part, &zs, 8, &mut |_, _, length, _| {
+            if length == 0.0 || left == 0 {
+                return Cell::Plain;
+            }
+            left -= 1;
+            let (x, radius) = [(6.0, 0.9), (4.0, 1.5), (6.0, 2.0)][left % 3];
+            Cell::Through(Ring::circle((x, 6.0), radius, 32))
+        });
+        let material = Some(Material { class: 0, min_wall: 1.0, bend_ratio: Some(1000), name: b"Stainless 304".to_vec() });
+        (self.name.into(), file::bytes(&part, &Job { material, ..Job::defaults(SHEET) }))
+    }
+}
+
+pub fn all() -> Vec<(String, Vec<u8>)> {
+    let plans = [
+        Plan { name: "a plate with 4 holes", bends: 0, cells: 4, holes: 4 },
+        Plan { name: "a bracket of 2 bends with 3 holes", bends: 2, cells: 3, holes: 3 },
+        Plan { name: "a plate with 16 holes", bends: 0, cells: 16, holes: 16 },
+        Plan { name: "a bracket of 4 bends with 10 holes", bends: 4, cells: 6, holes: 10 },
+        Plan { name: "a plate with 64 holes", bends: 0, cells: 64, holes: 64 },
+        Plan { name: "a bracket of 6 bends with 40 holes", bends: 6, cells: 20, holes: 40 },
+    ];
+    plans.iter().map(Plan::file).collect()
+}

@@ -1,0 +1,160 @@
+//! The faults of sheet metal against the Rust's own list before it merges them, in order: severity, rule, text, count and faces; the thickness and the
+//! bends; and refusals 1 to 10. Takes generated files from standard input; with --quick there are fewer of the others.
+#[path = "../rays/bores.rs"]
+mod bores;
+#[path = "../body/change.rs"]
+mod change;
+#[path = "../rules/compare.rs"]
+mod compare;
+#[path = "../rules/counts.rs"]
+mod counts;
+#[path = "../oracle/generate/draw.rs"]
+#[allow(dead_code)]
+mod draw;
+#[path = "../part/field.rs"]
+mod field;
+#[path = "../oracle/generate/file.rs"]
+mod file;
+#[path = "../rules/frame.rs"]
+mod frame;
+#[path = "../lib/gablemadder.rs"]
+mod gablemadder;
+#[path = "../rules/ids.rs"]
+mod ids;
+#[path = "../oracle/generate/job.rs"]
+#[allow(dead_code)]
+mod job;
+#[path = "../body/layout.rs"]
+mod layout;
+#[path = "../lib/lent.rs"]
+mod lent;
+#[path = "../body/mesh.rs"]
+mod mesh;
+#[path = "../oracle/generate/part.rs"]
+#[allow(dead_code)]
+mod part;
+#[path = "../oracle/generate/plate.rs"]
+#[allow(dead_code)]
+mod plate;
+#[path = "../lib/random.rs"]
+mod random;
+#[path = "../body/regions.rs"]
+mod regions;
+#[path = "../oracle/generate/ring.rs"]
+#[allow(dead_code)]
+mod ring;
+#[path = "../rules/rows.rs"]
+mod rows;
+#[path = "../part/sample.rs"]
+mod sample;
+#[path = "../body/scratch.rs"]
+mod scratch;
+#[path = "../body/shapes.rs"]
+mod shapes;
+#[path = "../oracle/generate/sheet.rs"]
+mod sheet;
+#[path = "../oracle/generate/space.rs"]
+#[allow(dead_code)]
+mod space;
+#[path = "../lib/stream.rs"]
+mod stream;
+#[path = "../lib/tally.rs"]
+mod tally;
+#[path = "../machining/voxels.rs"]
+#[allow(dead_code)]
+mod voxels;
+#[path = "../rays/walls.rs"]
+mod walls;
+
+mod arrange;
+mod brackets;
+mod dials;
+mod jobs;
+mod limits;
+mod seen;
+mod steps;
+
+use compare::Compare;
+use mesh::Mesh;
+use random::Random;
+use seen::Sheet;
+
+fn main() {
+    frame::run::<Sheet>("sheet", 33, own, changed)
+}
+
+fn own(c: &mut Compare<Sheet>, quick: bool) {
+    let (shapes, dials, rounds) = if quick { (1_000, 200, 1) } else { (40_000, 12_000, 2) };
+    own_shapes(c, shapes);
+    own_dials(c, dials);
+    many_faults(c, rounds);
+}
+
+/// With another job, other ids, radii at a limit or another shape.
+fn changed(random: &mut Random, mesh: &Mesh) -> Mesh {
+    let mut copy = if random.below(6) == 0 { change::changed(random, mesh) } else { mesh.clone() };
+    if random.below(2) == 0 {
+        copy.job = jobs::draw(random);
+    }
+    if random.below(2) == 0 {
+        limits::fit_rounds(random, &mut copy);
+    }
+    if random.below(2) == 0 {
+        arrange::arranged(random, &mut copy);
+    }
+    copy
+}
+
+fn draw(random: &mut Random) -> Mesh {
+    let mut mesh = match random.below(16) {
+        0..=5 => brackets::draw(random),
+        6 | 7 => brackets::generated(random),
+        8 | 9 => brackets::squares(random),
+        10 => brackets::twins(random),
+        11 => voxels::draw(random),
+        12 => walls::draw(random),
+        13 if random.below(8) == 0 => Mesh::empty(),
+        13 => shapes::draw(random),
+        _ => {
+            let mut mesh = brackets::draw(random);
+            limits::fit_rounds(random, &mut mesh);
+            mesh
+        }
+    };
+    arrange::arranged(random, &mut mesh);
+    mesh.job = jobs::draw(random);
+    mesh
+}
+
+fn own_shapes(c: &mut Compare<Sheet>, count: u64) {
+    let mut random = Random(36);
+    for number in 0..count {
+        let mesh = draw(&mut random);
+        c.check(&mesh.bytes(), || format!("shape {number}"));
+        let changed = changed(&mut random, &mesh);
+        c.check(&changed.bytes(), || format!("shape {number}, changed"));
+    }
+}
+
+/// Parts one f64 to each side of a change.
+fn own_dials(c: &mut Compare<Sheet>, count: u64) {
+    let mut random = Random(37);
+    for number in 0..count {
+        let (change, parts) = dials::draw(&mut random).parts();
+        if let Some(what) = change {
+            c.counts.add(&what, 1);
+        }
+        for (k, mesh) in parts.iter().enumerate() {
+            c.check(&mesh.bytes(), || format!("dial {number}, part {k}"));
+        }
+    }
+}
+
+/// About as many as there are rows at the most, and more.
+fn many_faults(c: &mut Compare<Sheet>, rounds: u64) {
+    for _ in 0..rounds {
+        for (insides, tight) in [(341, 0), (341, 1), (341, 2), (341, 3), (400, 400)] {
+            c.check(&limits::many_faults(insides, 6, tight).bytes(), || format!("{insides} bends on one outside, {tight} of them tight"));
+        }
+    }
+}
