@@ -1,33 +1,25 @@
 -- The rules on the material.
 use mathlib.Core.Path.{_≡_, refl, sym, ap, _∙_}
-use mathlib.Core.Bool.{Bool, true, false, not, _&&_, _||_, cond}
-use mathlib.Core.Logic.{_⊎_, inl, inr}
+use mathlib.Core.Bool.{Bool, true, false, _&&_, cond}
 use mathlib.Core.List.{List, [], _∷_}
-use Prim.Native.Nat.{ℕ, _≤_, _<_}
+use Prim.Native.Nat.{ℕ, _<_}
 use native.Mathlib.Omega.{arith}
 use lib.IntN.{pos}
-use lib.Dec.{lit<}
-use lib.Ieee.{Float, binary64, div, mul, ofInt, ofBits, le, lt, eq}
+use lib.Ieee.{Float, binary64, div, ofInt, ofBits}
 use denote.Enum.Declared.{tagOf}
-use Rattle.num_float.specs.Sign.{NonNeg}
-use Rattle.num_float.specs.Within.{Within, Beyond}
-use Rattle.num_float.proofs.Within.{held-small, mul-within, div-within, whole-within, wider}
-use Rattle.num_float.proofs.Sign.{mul-nonneg, div-nonneg, whole-nonneg}
 use Rattle.math.specs.Vector.{zero, one}
 use Rattle.file_job.specs.declared.MaterialClass.{MaterialClass}
 use Rattle.file_job.specs.declared.MaterialClass.the-variants.{Metal, Plastic}
 use Rattle.file_job.proofs.MaterialClass as material-class
 use Rattle.file_job.specs.declared.Job.{Job}
-use Rattle.file_part.specs.Part.{Part, partOf}
-use Rattle.solid_faces.specs.Faces.{facesOf, Checked}
+use Rattle.file_part.specs.Part.{Part}
+use Rattle.solid_faces.specs.Faces.{facesOf}
 use Rattle.fault_row.specs.Fault.{Fault}
 use Rattle.fault_row.specs.Row.{row, RowPut}
-use Rattle.fault_row.specs.Faults.{FaultsPut}
 use Rattle.fault_row.proofs.FaultLaws.{faults-none, faults-one, faults-same}
 use Rattle.fault_text.specs.Kind.{noMaterial, material}
 use Rattle.fault_text.specs.Sheet.{noMaterialFault, materialFault}
 use Rattle.fault_text.specs.Meaning.{faultOf, GoodRow}
-use Rattle.fault_text.proofs.JobLaws.{ratio-to}
 use Rattle.fault_text.proofs.MeaningLaws.{good-row}
 use Rattle.fault_text.proofs.SheetLaws.{no-material-row, material-row, no-material-printed, material-printed}
 use Rattle.rule_sheet.specs.Material.{isMetal, isFormed, ratioOf, materialFaults}

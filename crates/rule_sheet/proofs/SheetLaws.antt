@@ -1,16 +1,15 @@
 -- All rules of sheet metal, one after the other: what each leaves for the next, and all of them together.
 use mathlib.Core.Path.{_≡_, refl, sym, ap, _∙_, subst}
-use mathlib.Core.Bool.{Bool, true, false, not, _&&_, cond, true≢false}
+use mathlib.Core.Bool.{true, false, not, true≢false}
 use mathlib.Core.List.{List, [], _∷_, _++_, append-nil}
 use Prim.Native.Nat.{ℕ, _+_, _≤_, _<_}
 use native.Mathlib.Omega.{arith}
-use lib.Dec.{lit<, leb}
+use lib.Dec.{lit<}
 use lib.ListN.{length}
 use lib.Ieee.{Float, nan}
 use borrow.Author.Tests.{le-leb, lt-leb}
 use Rattle.num_text.specs.Decimal.{accepted}
 use Rattle.num_text.proofs.NeverRefused.{accepted-at}
-use Rattle.math.specs.Vector.{zero}
 use Rattle.list_laws.specs.Region.{Outside}
 use Rattle.list_laws.proofs.Outside.{outside-none, outside-then, outside-wide}
 use Rattle.file_job.specs.declared.Job.{Job}
@@ -19,9 +18,8 @@ use Rattle.solid_faces.specs.Faces.{facesOf, Checked}
 use Rattle.scratch.specs.declared.regions.Regions.{Regions}
 use Rattle.scratch.specs.Regions.{Laid}
 use Rattle.scratch.specs.Standing.{Standing}
-use Rattle.solid_ranks.specs.Kept.{Ranked, RanksPut}
+use Rattle.solid_ranks.specs.Kept.{RanksPut}
 use Rattle.solid_ranks.proofs.KeptLaws.{sorts-only}
-use Rattle.solid_tours.specs.declared.tour.Edges.{Edges}
 use Rattle.solid_tours.specs.Kept.{EdgesOrdered}
 use Rattle.solid_tours.specs.Kept as tours
 use Rattle.wall_samples.specs.Stored.{Readings}
@@ -29,17 +27,15 @@ use Rattle.wall_pairs.proofs.KeptLaws.{rounds-kept}
 use Rattle.round_all.specs.Kept.{Rounds}
 use Rattle.measure_sizes.specs.Reading.{ReadingBounds}
 use Rattle.sheet_thickness.specs.declared.Thickness.{Thickness}
-use Rattle.sheet_thickness.specs.Thickness.{keptReadings, thicknessOf, thinnestOf, thickestOf, isUneven}
+use Rattle.sheet_thickness.specs.Thickness.{keptReadings, thicknessOf, isUneven}
 use Rattle.sheet_thickness.specs.Kept.{ThicknessIs, Measured, OffFaces}
-use Rattle.sheet_thickness.proofs.KeptLaws.{still-stands, still-read, still-ordered}
+use Rattle.sheet_thickness.proofs.KeptLaws.{still-read, still-ordered}
 use Rattle.sheet_thickness.proofs.SizeLaws.{thickness-bounds}
-use Rattle.sheet_bends.specs.declared.Sheet.{Sheet}
 use Rattle.sheet_bends.specs.Bends.{bendCount}
 use Rattle.sheet_bends.specs.Kept.{BendsPut, SheetStands}
 use Rattle.sheet_bends.proofs.BendLaws.{sheet-stands}
 use Rattle.fault_row.specs.declared.summary.Summary.{Summary}
 use Rattle.fault_row.specs.declared.summary.Found.{Found}
-use Rattle.fault_row.specs.Fault.{Fault}
 use Rattle.fault_row.specs.Row.{row, RowPut}
 use Rattle.fault_row.specs.Faults.{FaultsPut}
 use Rattle.fault_row.specs.Summary.{noSummary, sheetSummary}

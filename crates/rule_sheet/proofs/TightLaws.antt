@@ -10,7 +10,7 @@ use lib.Dec.{lit<, lit≤}
 use lib.Ieee.{Float, binary64, add, mul, div, lt, le, eq, ofInt, ofBits}
 use Rattle.num_float.specs.Sign.{NonNeg, plus-zero}
 use Rattle.num_float.specs.Within.{Within, Beyond}
-use Rattle.num_float.proofs.Within.{held-small, mul-within, div-within, whole-within, wider}
+use Rattle.num_float.proofs.Within.{held-small, mul-within, div-within, whole-within}
 use Rattle.num_float.proofs.Sign.{mul-nonneg, div-nonneg, whole-nonneg}
 use Rattle.num_text.specs.Decimal.{accepted}
 use Rattle.num_text.proofs.NeverRefused.{accepted-at}
@@ -31,7 +31,6 @@ use Rattle.measure_sizes.specs.Round.{RoundBounds}
 use Rattle.measure_sizes.proofs.Rounds.{round-bounds}
 use Rattle.sheet_bends.specs.Bends.{outsideOf, isBend}
 use Rattle.sheet_bends.proofs.BendLaws.{bend-faces}
-use Rattle.fault_row.specs.Fault.{Fault}
 use Rattle.fault_row.specs.Row.{row, RowPut}
 use Rattle.fault_row.specs.Faults.{FaultsPut}
 use Rattle.fault_row.proofs.FaultLaws.{faults-none, faults-one, faults-then, faults-same}

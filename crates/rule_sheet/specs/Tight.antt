@@ -1,5 +1,5 @@
 -- The rule `Tight bend` of dfm.rs's `sheet_metal`. Definitions only. A bend goes by its inside face; `thick` is the sheet's thickness.
-use mathlib.Core.Bool.{_&&_, cond}
+use mathlib.Core.Bool.{cond}
 use mathlib.Core.List.{List, [], _∷_}
 use Prim.Native.Nat.{ℕ}
 use lib.Ieee.{Float, binary64, add, mul, lt}

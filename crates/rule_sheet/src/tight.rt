@@ -1,5 +1,4 @@
 // `Tight bend`.
-ghost use mathlib.Core.Path.{_≡_};
 ghost use Prim.Native.Nat.{_+_, _≤_, _<_};
 ghost use Rattle.file_part.specs.Part.{partOf};
 ghost use Rattle.measure_sizes.specs.Reading.{ReadingBounds};

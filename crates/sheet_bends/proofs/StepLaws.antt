@@ -4,19 +4,15 @@ use mathlib.Core.Bool.{Bool, true, false, _||_, cond}
 use mathlib.Core.Logic.{_⊎_, inl, inr}
 use mathlib.Core.List.{List, [], _∷_}
 use Prim.Native.Nat.{ℕ, zero, suc, _+_, _-_, _≤_, _<_}
-use native.Mathlib.Nat.{le-antisymm}
 use native.Mathlib.Omega.{arith}
-use native.Mathlib.Numerals.{add-one}
-use lib.Dec.{eqb, ltb}
+use lib.Dec.{eqb}
 use lib.Ieee.{Float}
 use lib.ListN.{length, getD, set, length-set, length-append, replicate, length-replicate}
 use lib.Seq.{getD-set-same, getD-set-other}
-use borrow.Author.Tests.{eqb-true, eqb-false, eq-eqb, ne-eqb, lt-ltb, le-ltb}
+use borrow.Author.Tests.{eqb-true, eqb-false, eq-eqb, ne-eqb}
 use borrow.Rule.Slice.PartMut.{putMid}
 use Rattle.num_float.proofs.Tests.{lt-or-ge, and-false-left}
 use Rattle.list_laws.specs.Region.{part, Outside}
-use Rattle.list_laws.specs.Below.{lowestBelow}
-use Rattle.list_laws.proofs.Count.{lowest-le}
 use Rattle.list_laws.proofs.Fill.{filled-at}
 use Rattle.list_laws.proofs.Outside.{outside-none, outside-then, outside-set, outside-put}
 use Rattle.list_laws.proofs.Regions.{part-length, put-inside}
@@ -25,6 +21,7 @@ use Rattle.file_part.specs.Part.{Part, partOf}
 use Rattle.solid_faces.specs.Faces.{facesOf}
 use Rattle.solid_faces.proofs.CountLaws.{few-faces}
 use Rattle.solid_bodies.specs.Body.{someBelow}
+use Rattle.solid_bodies.proofs.SomeLaws.{some-none, some-more}
 use Rattle.scratch.specs.declared.regions.Regions.{Regions}
 use Rattle.scratch.specs.Regions.{Laid}
 use Rattle.scratch.specs.Standing.{Standing}
@@ -34,28 +31,6 @@ use Rattle.sheet_bends.specs.Bends.{outsideOf, isBend, bendsOf, bendCoun
 use Rattle.sheet_bends.specs.Kept.{bendCell, BendsPut}
 use Rattle.sheet_bends.specs.Work.{bendStored, isOfBend, BendsTo}
 use Rattle.sheet_bends.proofs.BendLaws.{bend-none, bend-is}
-
--- ---- one number more that may pass
-some-step : (m n : ℕ) (b : Bool) → m ≤ n → ltb (cond (eqb m n) (cond b n (suc n)) m) (suc n) ≡ (ltb m n || b)
-some-step m n b l = go (lt-or-ge m n)
-  where
-    last : (b : Bool) → ltb (cond b n (suc n)) (suc n) ≡ b
-    last true = lt-ltb n (suc n) (omega arith)
-    last false = le-ltb (suc n) (suc n) (omega arith)
-
-    go : (m < n) ⊎ (n ≤ m) → ltb (cond (eqb m n) (cond b n (suc n)) m) (suc n) ≡ (ltb m n || b)
-    go (inl below) = rw (ne-eqb m n (λ e. omega (arith, e, below)), lt-ltb m n below, lt-ltb m (suc n) (omega (arith, below)))
-    go (inr above) =
-        let same : m ≡ n = le-antisymm l above in
-        rw (eq-eqb m n same, le-ltb m n above, last b)
-
-pub some-more : (n : ℕ) (test : ℕ → Bool) → someBelow (n + 1) test ≡ (someBelow n test || test n)
-unfolding someBelow lowestBelow
-some-more n test = rw (add-one) (some-step (lowestBelow n test) n (test n) (lowest-le n test))
-
-some-none : (test : ℕ → Bool) → someBelow 0 test ≡ false
-unfolding someBelow lowestBelow
-some-none test = refl
 
 -- ---- how many there are
 pub count-none : (t : Part) (thick : Float) → 0 ≡ length (passing (isBend t thick) 0)

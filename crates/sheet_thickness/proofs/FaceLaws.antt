@@ -32,7 +32,7 @@ use Rattle.wall_pairs.proofs.WallLaws.{walls-inside}
 use Rattle.sheet_thickness.specs.Thickness.{edgeLimit, thicknessOf, isOff, isOffFace}
 use Rattle.sheet_thickness.specs.Kept.{Distances, OffFaces}
 use Rattle.sheet_thickness.specs.Work.{isFarOff, FacesMarked}
-use Rattle.sheet_thickness.proofs.ListLaws.{some-none, some-more}
+use Rattle.solid_bodies.proofs.SomeLaws.{some-none, some-more}
 use Rattle.sheet_thickness.proofs.KeptLaws.{still-stands, still-read}
 use Rattle.sheet_thickness.proofs.ReadingLaws.{off-is}
 

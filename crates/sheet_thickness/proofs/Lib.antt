@@ -3,7 +3,7 @@
 -- KeptLaws: still-ordered, still-read, still-stands        what stands after `measure` and `put_off_faces`
 -- ReadingLaws: kept-below                 the readings that are kept are readings
 -- The others are the steps of the functions here:
--- ListLaws: numbers that pass, put one by one; weights added; whether some number passes
+-- ListLaws: numbers that pass, put one by one; weights added
 -- DistanceLaws: the distances; ReadingLaws: the tests by what stands; MiddleLaws: the median; MeasureLaws: the whole; FaceLaws: the marks
 pub mod ListLaws
 pub mod KeptLaws

@@ -1,25 +1,20 @@
--- The numbers that pass a test, put one by one; their weights, added one by one; and whether some number passes.
+-- The numbers that pass a test, put one by one; and their weights, added one by one.
 use mathlib.Core.Path.{_≡_, refl, sym, ap, _∙_, subst}
-use mathlib.Core.Bool.{Bool, true, false, _||_, cond}
+use mathlib.Core.Bool.{Bool, true, false, cond}
 use mathlib.Core.List.{List, [], _∷_, _++_}
 use mathlib.Core.Logic.{_⊎_, inl, inr}
 use Prim.Native.Nat.{ℕ, zero, suc, _+_, _≤_, _<_}
 use native.Mathlib.Omega.{arith}
 use native.Mathlib.Numerals.{add-one}
 use native.Mathlib.Nat.{le-antisymm}
-use lib.Dec.{eqb, ltb}
 use lib.ListN.{length, getD, set, length-append, List·getD-append}
 use lib.Seq.{getD-set-same, getD-set-other, getD-at}
 use lib.Ieee.{Float, binary64, add}
-use borrow.Author.Tests.{eqb-true, eqb-false, lt-ltb, le-ltb}
 use Rattle.num_float.proofs.Tests.{lt-or-ge}
 use Rattle.math.specs.Vector as vector
-use Rattle.list_laws.specs.Below.{lowestBelow}
-use Rattle.list_laws.proofs.Count.{lowest-le}
 use Rattle.list_laws.proofs.Outside.{outside-none, outside-then, outside-wide, outside-set}
 use Rattle.list_groups.specs.Groups.{passing}
 use Rattle.list_groups.proofs.Strict.{place-mem}
-use Rattle.solid_bodies.specs.Body.{someBelow}
 use Rattle.solid_tours.proofs.Passing.{passing-more, passing-past, passing-zero, mem-passing}
 use Rattle.sheet_thickness.specs.Thickness.{addedTo}
 use Rattle.sheet_thickness.specs.Work.{PassingPut}
@@ -88,26 +83,3 @@ added-same test test′ weight weight′ zero t w = refl
 added-same test test′ weight weight′ (suc k) t w =
     let before : addedTo test weight k ≡ addedTo test′ weight′ k = added-same test test′ weight weight′ k (λ i l. t i (omega (arith, l))) (λ i l. w i (omega (arith, l))) in
     rw (before, t k (omega arith), w k (omega arith))
-
--- ---- whether some number passes
-pub some-none : (test : ℕ → Bool) → someBelow 0 test ≡ false
-unfolding someBelow lowestBelow
-some-none test = refl
-
-lowest-suc : (n : ℕ) (test : ℕ → Bool) → lowestBelow (suc n) test ≡ cond (eqb (lowestBelow n test) n) (cond (test n) n (suc n)) (lowestBelow n test)
-unfolding lowestBelow
-lowest-suc n test = refl
-
-pub some-more : (n : ℕ) (test : ℕ → Bool) → someBelow (n + 1) test ≡ (someBelow n test || test n)
-unfolding someBelow
-some-more n test = rw (add-one) (go (eqb (lowestBelow n test) n) (test n) refl refl)
-  where
-    step : lowestBelow (suc n) test ≡ cond (eqb (lowestBelow n test) n) (cond (test n) n (suc n)) (lowestBelow n test)
-    step = lowest-suc n test
-
-    go : (a b : Bool) → eqb (lowestBelow n test) n ≡ a → test n ≡ b → ltb (lowestBelow (suc n) test) (suc n) ≡ (ltb (lowestBelow n test) n || test n)
-    go true true ea eb = rw (step, ea, eb, le-ltb (lowestBelow n test) n (omega (arith, eqb-true (lowestBelow n test) n ea))) (lt-ltb n (suc n) (omega arith))
-    go true false ea eb = rw (step, ea, eb, le-ltb (lowestBelow n test) n (omega (arith, eqb-true (lowestBelow n test) n ea))) (le-ltb (suc n) (suc n) (omega arith))
-    go false b ea eb =
-        let low : lowestBelow n test < n = omega (arith, lowest-le n test, eqb-false (lowestBelow n test) n ea) in
-        rw (step, ea, lt-ltb (lowestBelow n test) n low) (lt-ltb (lowestBelow n test) (suc n) (omega (arith, low)))

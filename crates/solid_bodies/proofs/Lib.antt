@@ -8,6 +8,7 @@
 --   touch-turned, joined-turned     both ways
 --   label-known, labels-as          a label is a polygon; a list that agrees below P has the labels too
 -- ChainLaws: one, then, turned, bind, constant, lowest-only   chains of any relation
+-- SomeLaws: some-none, some-more     whether some number below n passes a test
 -- The others are for the proofs here: the forest of parents, the scan over the corners, the table of slots, the slices of the memory,
 -- the memory after each step, the corners of an accepted part.
 pub mod ChainLaws
@@ -18,3 +19,4 @@ pub mod SliceLaws
 pub mod StepLaws
 pub mod BodyLaws
 pub mod CornerLaws
+pub mod SomeLaws

@@ -1,5 +1,4 @@
 -- `rule_sheet::ready::make_ready` meets its contract: one after the other.
-use borrow.Author.Needs.{needs}
 use Rattle.rule_sheet.proofs.ReadyLaws.{ranked-still, words-all, reals-all, ready-put}
 use Rattle.rule_sheet.proofs.ready.make_ready.Statement.{statement}
 use Rattle.rule_sheet.proofs.ready.make_ready.Tie as tie

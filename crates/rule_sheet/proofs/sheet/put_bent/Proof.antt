@@ -1,5 +1,4 @@
 -- `rule_sheet::sheet::put_bent` meets its contract: one rule after the other.
-use borrow.Author.Needs.{needs}
 use mathlib.Core.Path.{_∙_}
 use Rattle.rule_sheet.proofs.SheetLaws.{bent-put}
 use native.Mathlib.Omega.{arith}

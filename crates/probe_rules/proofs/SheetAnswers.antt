@@ -1,0 +1,180 @@
+-- The answers of the probe of sheet metal, return by return, and the cells of its summary.
+use mathlib.Core.Path.{_≡_, refl, sym, ap, ap₂, _∙_, subst}
+use mathlib.Core.Bool.{Bool, true, false, cond}
+use mathlib.Core.List.{List, [], _∷_}
+use Prim.Native.Nat.{ℕ, _+_, _≤_, _<_}
+use native.Mathlib.Omega.{arith}
+use lib.IntN.{pos}
+use lib.ListN.{length, set}
+use lib.Ieee.{Float, binary64, nan, ofInt}
+use borrow.Author.Tests.{eq-eqb, ne-eqb}
+use Rattle.math.specs.Vector.{zero, one}
+use Rattle.list_laws.specs.Region.{Outside}
+use Rattle.list_laws.proofs.Outside.{outside-then, outside-wide}
+use Rattle.list_laws.proofs.Stores.{stores-length, stores-below, stores-above, stores-at}
+use Rattle.file_part.specs.Layout.{vertexCount, polygonCount}
+use Rattle.file_part.specs.Part.{Part, partOf}
+use Rattle.solid_faces.specs.Faces.{facesOf, Checked}
+use Rattle.solid_faces.proofs.BodyLaws.{checked-faces}
+use Rattle.scratch.specs.declared.regions.Regions.{Regions}
+use Rattle.scratch.specs.Regions.{Laid, wordsNeeded, realsNeeded, regionsOf}
+use Rattle.scratch.specs.Refusal.{bodyRefusal}
+use Rattle.scratch.specs.Standing.{Placed}
+use Rattle.scratch.proofs.RegionLaws.{only-regions}
+use Rattle.sheet_thickness.specs.Thickness.{thicknessOf}
+use Rattle.sheet_thickness.specs.Kept.{OffFaces}
+use Rattle.sheet_bends.specs.Bends.{bendsOf, bendCount}
+use Rattle.sheet_bends.proofs.StepLaws.{count-few}
+use Rattle.fault_row.specs.declared.summary.Summary.{Summary}
+use Rattle.fault_row.specs.declared.summary.Found.{Found}
+use Rattle.fault_row.specs.Fault.{Fault}
+use Rattle.fault_row.specs.Faults.{FaultsPut}
+use Rattle.fault_row.specs.Summary.{noSummary, sheetSummary}
+use Rattle.fault_row.proofs.FaultLaws.{faults-none, faults-same}
+use Rattle.fault_text.specs.Meaning.{faultOf, GoodRow}
+use Rattle.rule_sheet.specs.All.{sheetMetal, isSheet, summaryOf, SheetPut}
+use Rattle.probe_rules.specs.Sheet.{sheetFaults, sheetFound, flagOf, SummaryPut, SheetAnswer}
+
+-- ---- the summary's cells
+pub flag-set : (b : Bool) → b ≡ true → one ≡ flagOf b
+unfolding flagOf
+flag-set b e = rw (e)
+
+pub flag-clear : (b : Bool) → b ≡ false → zero ≡ flagOf b
+unfolding flagOf
+flag-clear b e = rw (e)
+
+pub summary-put : (x : Summary) (l : List Float) (f : Float) → f ≡ flagOf (x .«has_thickness») → 3 ≤ length l →
+    SummaryPut x l (set (set (set l 0 f) 1 (x .thickness)) 2 (ofInt binary64 (pos (x .bends))))
+summary-put x l f e room =
+    record {
+      has-thickness = stores-at l 0 0 cells nan (omega (arith, room)) 0 (omega arith) ∙ e;
+      thickness = stores-at l 0 0 cells nan (omega (arith, room)) 1 (omega arith);
+      bends = stores-at l 0 0 cells nan (omega (arith, room)) 2 (omega arith);
+      kept = record { below = λ i h. stores-below l 0 0 cells nan i h; above = λ i h. stores-above l 0 0 cells nan i h; long = stores-length l 0 0 cells };
+    }
+  where
+    cells : List Float
+    cells = f ∷ x .thickness ∷ ofInt binary64 (pos (x .bends)) ∷ []
+
+-- ---- no more bends than faces, so that their number is an f64
+bend-few : (t : Part) (thick : Float) → bendCount t thick ≤ facesOf t
+unfolding bendCount bendsOf
+bend-few t thick = count-few t thick (facesOf t) _ refl
+
+pub none-few : (x : Summary) → x ≡ noSummary → x .bends ≤ 1024
+unfolding noSummary
+none-few x e = omega (arith, ap (λ (y : Summary). y .bends) e)
+
+sheet-few : (x : Summary) (thick : Float) (n : ℕ) → x ≡ sheetSummary thick n → n ≤ 1024 → x .bends ≤ 1024
+unfolding sheetSummary
+sheet-few x thick n e few = omega (arith, ap (λ (y : Summary). y .bends) e, few)
+
+either-few : (b : Bool) (x : Summary) (thick : Float) (n : ℕ) → x ≡ cond b (sheetSummary thick n) noSummary → n ≤ 1024 → x .bends ≤ 1024
+either-few true x thick n e few = sheet-few x thick n e few
+either-few false x thick n e few = none-few x e
+
+pub found-few : (s : List ℕ) → Checked s → (x : Summary) → x ≡ summaryOf (partOf s) → x .bends ≤ 1024
+unfolding summaryOf
+found-few s h x e =
+    let t = partOf s in
+    either-few (isSheet t) x (thicknessOf t) (bendCount t (thicknessOf t)) e (omega (arith, bend-few t (thicknessOf t), checked-faces s h))
+
+-- ---- with faces and without
+none-faults : (t : Part) → facesOf t ≡ 0 → [] ≡ sheetFaults t
+unfolding sheetFaults
+none-faults t e = rw (eq-eqb (facesOf t) 0 e) refl
+
+none-found : (t : Part) → facesOf t ≡ 0 → noSummary ≡ sheetFound t
+unfolding sheetFound
+none-found t e = rw (eq-eqb (facesOf t) 0 e) refl
+
+some-faults : (t : Part) → (facesOf t ≡ 0 → ⊥) → sheetMetal t ≡ sheetFaults t
+unfolding sheetFaults
+some-faults t e = rw (ne-eqb (facesOf t) 0 e) refl
+
+some-found : (t : Part) → (facesOf t ≡ 0 → ⊥) → summaryOf t ≡ sheetFound t
+unfolding sheetFound
+some-found t e = rw (ne-eqb (facesOf t) 0 e) refl
+
+-- ---- the answers
+module _ (s words : List ℕ) (reals : List Float) where
+  pub sheet-no-room : (cells : List ℕ) (numbers summary : List Float) → length summary < 3 →
+      SheetAnswer s words words reals reals cells cells numbers numbers summary summary 0
+  sheet-no-room cells numbers summary short =
+      record {
+        no-room = λ _. record { answer = refl; words-same = refl; reals-same = refl; cells-same = refl; numbers-same = refl; summary-same = refl };
+        refused = λ room _. absurd (omega (arith, room, short));
+        found = λ room _. absurd (omega (arith, room, short));
+      }
+
+  module _ (summary : List Float) (room : 3 ≤ length summary) (q : ℕ) (e : q ≡ bodyRefusal s (length words) (length reals)) where
+    pub sheet-refused : (cells : List ℕ) (numbers : List Float) → (q ≡ 0 → ⊥) → SheetAnswer s words words reals reals cells cells numbers numbers summary summary q
+    sheet-refused cells numbers other =
+        record {
+          no-room = λ short. absurd (omega (arith, room, short));
+          refused = λ _ _. record { answer = e; words-same = refl; reals-same = refl; cells-same = refl; numbers-same = refl; summary-same = refl };
+          found = λ _ z. absurd (other (e ∙ z));
+        }
+
+    module _ (z : q ≡ 0) (at : Regions) (placed : Placed s at) (words1 : List ℕ) (reals1 : List Float) (w : Outside 0 0 (at .readings) words words1)
+        (r : Outside nan 0 (at .falling) reals reals1) (n : ℕ) (is : n ≡ facesOf (partOf s)) (summary′ : List Float) where
+      abbrev laid : Laid at
+      laid = placed .laid
+
+      abbrev counts : (at .polygons ≡ polygonCount s) × (at .vertices ≡ vertexCount s)
+      counts = (placed .polygons, placed .vertices)
+
+      body-words : Outside 0 0 (wordsNeeded (polygonCount s) (vertexCount s)) words words1
+      body-words = outside-wide 0 _ _ _ _ words words1 (omega arith) (omega (arith, laid, counts)) w
+
+      body-reals : Outside nan 0 (realsNeeded (polygonCount s) (vertexCount s)) reals reals1
+      body-reals = outside-wide nan _ _ _ _ reals reals1 (omega arith) (omega (arith, laid, counts)) r
+
+      pub sheet-none : n ≡ 0 → (cells : List ℕ) (numbers : List Float) (x : Summary) → x ≡ noSummary → SummaryPut x summary summary′ →
+          SheetAnswer s words words1 reals reals1 cells cells numbers numbers summary summary′ 1000
+      sheet-none empty cells numbers x ex put =
+          let none : facesOf (partOf s) ≡ 0 = sym is ∙ empty in
+          let quiet : [] ≡ sheetFaults (partOf s) = none-faults (partOf s) none in
+          record {
+            no-room = λ short. absurd (omega (arith, room, short));
+            refused = λ _ other. absurd (other (sym e ∙ z));
+            found = λ _ _.
+                record {
+                  answer = ap (λ (l : List Fault). 1000 + length l) quiet;
+                  put = subst (λ (l : List Fault). FaultsPut (faultOf (partOf s)) (GoodRow (partOf s)) 0 l cells cells numbers numbers (length l)) quiet (faults-none 0 cells numbers);
+                  summary-put = subst (λ (y : Summary). SummaryPut y summary summary′) (ex ∙ none-found (partOf s) none) put;
+                  marks = λ _ _ _ some. absurd (omega (arith, some, none));
+                  words-kept = body-words;
+                  reals-kept = body-reals;
+                };
+          }
+
+      pub sheet-found : (n ≡ 0 → ⊥) → (words2 : List ℕ) (reals2 : List Float) (cells cells′ : List ℕ) (numbers numbers′ : List Float) (x : Found) →
+          SheetPut s at words1 words2 reals1 reals2 cells cells′ numbers numbers′ x → SummaryPut (x .summary) summary summary′ →
+          SheetAnswer s words words2 reals reals2 cells cells′ numbers numbers′ summary summary′ (1000 + x .faults)
+      sheet-found full words2 reals2 cells cells′ numbers numbers′ x sheet put =
+          record {
+            no-room = λ short. absurd (omega (arith, room, short));
+            refused = λ _ other. absurd (other (sym e ∙ z));
+            found = λ _ _.
+                record {
+                  answer = ap (λ (k : ℕ). 1000 + k) count;
+                  put = subst (λ (k : ℕ). FaultsPut (faultOf (partOf s)) (GoodRow (partOf s)) 0 (sheetFaults (partOf s)) cells cells′ numbers numbers′ k) count faults;
+                  summary-put = subst (λ (y : Summary). SummaryPut y summary summary′) (sheet .summary ∙ some-found (partOf s) some) put;
+                  marks = λ f m u _. subst (λ (a : Regions). OffFaces (partOf s) a words2) (only-regions at laid ∙ ap₂ regionsOf (placed .polygons) (placed .vertices)) (sheet .marks f m u);
+                  words-kept =
+                      outside-then 0 _ _ words words1 words2 body-words (outside-wide 0 _ _ _ _ words1 words2 (omega arith) (omega (arith, laid, counts)) (sheet .words-kept));
+                  reals-kept =
+                      outside-then nan _ _ reals reals1 reals2 body-reals (outside-wide nan _ _ _ _ reals1 reals2 (omega arith) (omega (arith, laid, counts)) (sheet .reals-kept));
+                };
+          }
+        where
+          some : facesOf (partOf s) ≡ 0 → ⊥
+          some none = full (is ∙ none)
+
+          faults : FaultsPut (faultOf (partOf s)) (GoodRow (partOf s)) 0 (sheetFaults (partOf s)) cells cells′ numbers numbers′ (x .faults)
+          faults = faults-same (some-faults (partOf s) some) (sheet .put)
+
+          count : x .faults ≡ length (sheetFaults (partOf s))
+          count = faults .count ∙ omega arith
