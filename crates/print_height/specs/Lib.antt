@@ -1,0 +1,2 @@
+-- The heights of a print.
+pub mod Height

@@ -1,0 +1,3 @@
+-- The walls, floors and roofs of a print.
+pub mod Walls
+pub mod Work
