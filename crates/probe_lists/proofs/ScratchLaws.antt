@@ -1,5 +1,6 @@
 -- What stands in the scratch, and what is as it was, after the stages of a probe.
-use mathlib.Core.Path.{_∙_}
+use mathlib.Core.Path.{_≡_, _∙_}
+use mathlib.Core.Bool.{true}
 use mathlib.Core.List.{List}
 use Prim.Native.Nat.{ℕ}
 use native.Mathlib.Omega.{arith}
@@ -23,6 +24,7 @@ readings-still s words words₁ words₂ reals reals₁ h w =
     let placed = h .standing .placed in
     record {
       at = at;
+      whole = h .whole;
       standing =
           standing-kept s at (at .kinds) (at .rounds) words₁ words₂ reals₁ reals₁ (h .standing)
           (outside-wide 0 _ _ (at .readings) (at .kinds) words₁ words₂ (omega (arith, placed .laid)) (omega arith) w) (outside-none nan _ _ reals₁);
@@ -34,13 +36,14 @@ readings-still s words words₁ words₂ reals reals₁ h w =
 
 -- first the body was put, then the measures
 module _ (s : List ℕ) (at : Regions) (words words₁ words₂ : List ℕ) (reals reals₁ reals₂ : List Float) (standing : Standing s at words₂ reals₂)
-    (w : Outside 0 0 (at .readings) words words₁) (r : Outside nan 0 (at .falling) reals reals₁) where
+    (w : Outside 0 0 (at .readings) words words₁) (r : Outside nan 0 (at .falling) reals reals₁) (whole : (at .segments ≡ true) × (at .bodies ≡ true)) where
   pub readings-put : Outside 0 (at .readings) (at .kinds) words₁ words₂ → Outside nan (at .falling) (at .rounds) reals₁ reals₂ → Readings (partOf s) at words₂ reals₂ →
       ReadingsPut s words words₂ reals reals₂
   readings-put w′ r′ readings =
       let laid = standing .placed .laid in
       record {
         at = at;
+        whole = whole;
         standing = standing;
         readings = readings;
         words-kept =
@@ -57,6 +60,7 @@ module _ (s : List ℕ) (at : Regions) (words words₁ words₂ : List ℕ) (rea
       let laid = standing .placed .laid in
       record {
         at = at;
+        whole = whole;
         standing = standing;
         rounds = rounds;
         words-kept =

@@ -1,5 +1,6 @@
 -- What the probes leave in the lent scratch. Definitions only.
 use mathlib.Core.Path.{_≡_}
+use mathlib.Core.Bool.{true}
 use mathlib.Core.List.{List}
 use Prim.Native.Nat.{ℕ}
 use lib.Ieee.{Float, nan}
@@ -10,11 +11,12 @@ use Rattle.scratch.specs.Standing.{Standing}
 use Rattle.wall_samples.specs.Stored.{Readings}
 use Rattle.round_all.specs.Kept.{Rounds}
 
--- The body and the readings stand in both slices, and the cells past their regions are as they were. Of their regions' cells some are work, and what
--- they hold is the program's choice: those of the order and of the areas negated, the five cells a side after the sides' three, those of the faces' first polygons
--- past the last face, and those of the readings past the last one.
+-- The whole body, with its segments, bodies and volumes, and the readings stand in both slices, and the cells past their regions are as they were.
+-- Of their regions' cells some are work, and what they hold is the program's choice: those of the order and of the areas negated, the five cells a side
+-- after the sides' three, those of the faces' first polygons past the last face, and those of the readings past the last one.
 pub record ReadingsPut (s words words′ : List ℕ) (reals reals′ : List Float) : Type 0 where
   pub at : Regions
+  pub whole : (at .segments ≡ true) × (at .bodies ≡ true)
   pub standing : Standing s at words′ reals′
   pub readings : Readings (partOf s) at words′ reals′
   pub words-kept : Outside 0 0 (at .kinds) words words′
@@ -24,6 +26,7 @@ pub record ReadingsPut (s words words′ : List ℕ) (reals reals′ : List Floa
 -- first polygons, of the kinds and of the numbers past the last face, and those of the numbers of faces that are no rounds.
 pub record RoundsPut (s words words′ : List ℕ) (reals reals′ : List Float) : Type 0 where
   pub at : Regions
+  pub whole : (at .segments ≡ true) × (at .bodies ≡ true)
   pub standing : Standing s at words′ reals′
   pub rounds : Rounds (partOf s) at words′ reals′
   pub words-kept : Outside 0 0 (at .ranks) words words′

@@ -3,6 +3,7 @@ ghost use Rattle.probe_lists.specs.Rough.{RoughPut};
 use scratch::body::put_body;
 use scratch::refusal::body_refusal;
 use scratch::regions::Regions;
+use scratch::regions::Stages;
 use wall_median::rough;
 use wall_samples::store::put_samples;
 
@@ -24,7 +25,13 @@ pub extern "C" fn gablemadder_rough(
     if out.len() < 1 {
         return 10;
     }
-    let at = Regions::of(file);
+    let at = Regions::of(
+        file,
+        Stages {
+            segments: true,
+            bodies: true,
+        },
+    );
     let count = put_body(file, words, reals, at);
     let n = put_samples(file, words, reals, at, count);
     out[0] = rough(file, words, reals, at, n);

@@ -11,6 +11,7 @@ use round_all::round::round_at;
 use scratch::body::put_body;
 use scratch::refusal::body_refusal;
 use scratch::regions::Regions;
+use scratch::regions::Stages;
 
 // 1 for true, 0 for false.
 fn flag(b: bool) -> u32
@@ -61,7 +62,13 @@ pub extern "C" fn gablemadder_round_list(
     if refusal != 0 {
         return refusal;
     }
-    let at = Regions::of(file);
+    let at = Regions::of(
+        file,
+        Stages {
+            segments: true,
+            bodies: true,
+        },
+    );
     let most = at.polygons;
     if (faces.len() < 3 * most + 1) | (numbers.len() < 11 * most) {
         return 10;

@@ -7,6 +7,7 @@ ghost use Rattle.probe_lists.specs.Work.{Row};
 use scratch::body::put_body;
 use scratch::refusal::body_refusal;
 use scratch::regions::Regions;
+use scratch::regions::Stages;
 use wall_samples::sample::Sample;
 use wall_samples::sample::sample_at;
 use wall_samples::store::put_samples;
@@ -48,7 +49,13 @@ pub extern "C" fn gablemadder_sample_list(
     if refusal != 0 {
         return refusal;
     }
-    let at = Regions::of(file);
+    let at = Regions::of(
+        file,
+        Stages {
+            segments: true,
+            bodies: true,
+        },
+    );
     let most = at.polygons;
     if (faces.len() < 2 * most + 1) | (numbers.len() < 8 * most) {
         return 10;

@@ -4,6 +4,7 @@ use crate::rays::ray_at;
 use scratch::body::put_body;
 use scratch::refusal::body_refusal;
 use scratch::regions::Regions;
+use scratch::regions::Stages;
 use wall_ray::raycast::raycast;
 
 // Puts the body of a part into the lent scratch, and for each ray the polygon that it strikes and how far along, and answers 0; or answers the
@@ -28,7 +29,13 @@ pub extern "C" fn gablemadder_raycast(
     if (polygons.len() < n) | (times.len() < n) {
         return 10;
     }
-    let at = Regions::of(file);
+    let at = Regions::of(
+        file,
+        Stages {
+            segments: true,
+            bodies: true,
+        },
+    );
     put_body(file, words, reals, at);
     let mut k: usize = 0;
     while k < n {

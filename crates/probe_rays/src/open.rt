@@ -4,6 +4,7 @@ use crate::rays::ray_at;
 use scratch::body::put_body;
 use scratch::refusal::body_refusal;
 use scratch::regions::Regions;
+use scratch::regions::Stages;
 use wall_ray::raycast::open_towards;
 
 // Puts the body of a part into the lent scratch, and for each ray 1 where the line from its origin along its direction leaves the part, else 0, and
@@ -27,7 +28,13 @@ pub extern "C" fn gablemadder_open_towards(
     if cells.len() < n {
         return 10;
     }
-    let at = Regions::of(file);
+    let at = Regions::of(
+        file,
+        Stages {
+            segments: true,
+            bodies: true,
+        },
+    );
     put_body(file, words, reals, at);
     let mut k: usize = 0;
     while k < n {

@@ -5,6 +5,7 @@ use rule_machining::machining::machining;
 use scratch::body::put_body;
 use scratch::refusal::body_refusal;
 use scratch::regions::Regions;
+use scratch::regions::Stages;
 
 // Puts the faults by the rules of machining, whatever process the job names, as rows of six cells and three numbers, as many as are lent, and answers
 // 1,000 and their number; or answers the refusal from 1 to 10 and changes nothing.
@@ -22,7 +23,13 @@ pub extern "C" fn gablemadder_machining(
     if refusal != 0 {
         return refusal;
     }
-    let at = Regions::of(file);
+    let at = Regions::of(
+        file,
+        Stages {
+            segments: true,
+            bodies: false,
+        },
+    );
     let n = put_body(file, words, reals, at);
     let body = Body { at: at, faces: n };
     let k = machining(file, words, reals, cells, numbers, body);

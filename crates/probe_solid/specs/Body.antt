@@ -1,5 +1,6 @@
 -- What the probe of the body leaves. Definitions only.
 use mathlib.Core.Path.{_≡_}
+use mathlib.Core.Bool.{true}
 use mathlib.Core.List.{List}
 use Prim.Native.Nat.{ℕ}
 use lib.ListN.{length}
@@ -9,10 +10,11 @@ use Rattle.scratch.specs.declared.regions.Regions.{Regions}
 use Rattle.scratch.specs.Standing.{Standing}
 use Rattle.scratch.specs.Refusal.{bodyRefusal}
 
--- The body stands in both slices, and the cells past its regions are as they were. Of its regions' cells, the five cells a side after the sides' three, and those
--- of the faces' first polygons past the last face, are work: what they hold is the program's choice.
+-- The whole body stands in both slices, with its segments, bodies and volumes, and the cells past its regions are as they were. Of its regions' cells,
+-- the five cells a side after the sides' three, and those of the faces' first polygons past the last face, are work: what they hold is the program's choice.
 pub record Put (s words words′ : List ℕ) (reals reals′ : List Float) : Type 0 where
   pub at : Regions
+  pub whole : (at .segments ≡ true) × (at .bodies ≡ true)
   pub standing : Standing s at words′ reals′
   pub words-kept : Outside 0 0 (at .readings) words words′
   pub reals-kept : Outside nan 0 (at .falling) reals reals′

@@ -3,6 +3,7 @@ ghost use Rattle.probe_solid.specs.Body.{BodyPut};
 use scratch::body::put_body;
 use scratch::refusal::body_refusal;
 use scratch::regions::Regions;
+use scratch::regions::Stages;
 
 // Puts the body of a part into the lent scratch and answers 0; or answers the refusal from 1 to 10 and changes nothing.
 #[no_mangle]
@@ -13,6 +14,13 @@ pub extern "C" fn gablemadder_body(file: &[u8], words: &mut [u32], reals: &mut [
     if refusal != 0 {
         return refusal;
     }
-    put_body(file, words, reals, Regions::of(file));
+    let at = Regions::of(
+        file,
+        Stages {
+            segments: true,
+            bodies: true,
+        },
+    );
+    put_body(file, words, reals, at);
     0
 }

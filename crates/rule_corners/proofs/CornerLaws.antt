@@ -283,12 +283,13 @@ module _ (s : List ℕ) (at : Regions) (words words1 : List ℕ) (reals reals1 :
     side-there k l =
         order-put .below (at .items + k) (omega (arith, l, count-is, all .few, h .placed .laid)) ∙ all .put .sides k (omega (arith, l, count-is))
 
-    pub corners-put : CornersPut s at words words2 reals reals1 m
-    corners-put =
+    pub corners-put : at .segments ≡ true → CornersPut s at words words2 reals reals1 m
+    corners-put on =
         record {
           count = count-is;
           ordered = record {
             standing = still-standing s at words words2 reals reals1 (at .chain) h (omega (arith, h .placed .laid)) words-kept (all .reals-kept);
+            edged = on;
             ranked = still-ranked s at words words2 reals reals1 (at .chain) h (omega (arith, h .placed .laid)) words-kept (all .reals-kept) ranked;
             sides = side-there;
             sorted = subst₂ (λ (k : ℕ) (l : List ℕ). PairsSorted u (nearFace u) (farFace u) k (cornerKeys at reals1) l) count-is (sym order-is) in-order;

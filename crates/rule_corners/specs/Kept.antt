@@ -1,5 +1,6 @@
 -- The corners by pairs of faces in the lent scratch, and the walk over the pairs. Definitions only.
 use mathlib.Core.Path.{_≡_}
+use mathlib.Core.Bool.{true}
 use mathlib.Core.List.{List}
 use Prim.Native.Nat.{ℕ, _+_, _<_}
 use lib.ListN.{length, getD}
@@ -32,6 +33,8 @@ cornerOrder at words = part (at .sorted) (at .chain) words
 -- all that the walk asks for
 pub record CornersOrdered (s : List ℕ) (at : Regions) (words : List ℕ) (reals : List Float) : Type 0 where
   pub standing : Standing s at words reals
+  -- the shared segments are put
+  pub edged : at .segments ≡ true
   pub ranked : Ranked (partOf s) at words
   pub sides : (k : ℕ) → k < cornerCount (partOf s) → getD words (at .items + k) 0 ≡ cornerSide (partOf s) k
   pub sorted : PairsSorted (partOf s) (nearFace (partOf s)) (farFace (partOf s)) (cornerCount (partOf s)) (cornerKeys at reals) (cornerOrder at words)

@@ -42,7 +42,7 @@ struct Turn {
 // Keeps a segment and the key of its pair of faces, where it is a corner. How many there are then.
 fn put_corner(file: &[u8], words: &mut [u32], reals: &mut [f64], at: Regions, turn: Turn) -> usize
     requires { ⌜ Standing (now file) at (now words) (now reals) ⌝ ∗ ⌜ Ranked (partOf (now file)) at (now words) ⌝ ∗ ⌜ turn .faces ≡ facesOf (partOf (now file)) ⌝ }
-    requires { ⌜ turn .side < at .vertices ⌝ ∗ ⌜ turn .before ≤ turn .side ⌝ }
+    requires { ⌜ turn .side < at .vertices ⌝ ∗ ⌜ turn .before ≤ turn .side ⌝ ∗ ⌜ at .segments ≡ true ⌝ }
     ensures { λ r. ⌜ CornerPut (partOf (now (file .entry))) at (turn .side) (turn .before) (now (words .entry)) (now (words .exit)) (now (reals .entry)) (now (reals .exit)) r ⌝ }
 {
     let s = turn.side;
@@ -63,7 +63,7 @@ fn put_corner(file: &[u8], words: &mut [u32], reals: &mut [f64], at: Regions, tu
 
 // All corners, in the order of the segments. How many there are.
 fn put_corners(file: &[u8], words: &mut [u32], reals: &mut [f64], at: Regions, n: usize) -> usize
-    requires { ⌜ Standing (now file) at (now words) (now reals) ⌝ ∗ ⌜ Ranked (partOf (now file)) at (now words) ⌝ ∗ ⌜ n ≡ facesOf (partOf (now file)) ⌝ }
+    requires { ⌜ Standing (now file) at (now words) (now reals) ⌝ ∗ ⌜ Ranked (partOf (now file)) at (now words) ⌝ ∗ ⌜ n ≡ facesOf (partOf (now file)) ⌝ ∗ ⌜ at .segments ≡ true ⌝ }
     ensures { λ r. ⌜ AllPut (now (file .entry)) at (now (words .entry)) (now (words .exit)) (now (reals .entry)) (now (reals .exit)) r ⌝ }
 {
     let vertices = at.vertices;
@@ -89,7 +89,7 @@ pub fn order_corners(
     at: Regions,
     n: usize,
 ) -> usize
-    requires { ⌜ Standing (now file) at (now words) (now reals) ⌝ ∗ ⌜ Ranked (partOf (now file)) at (now words) ⌝ ∗ ⌜ n ≡ facesOf (partOf (now file)) ⌝ }
+    requires { ⌜ Standing (now file) at (now words) (now reals) ⌝ ∗ ⌜ Ranked (partOf (now file)) at (now words) ⌝ ∗ ⌜ n ≡ facesOf (partOf (now file)) ⌝ ∗ ⌜ at .segments ≡ true ⌝ }
     ensures { λ r. ⌜ CornersPut (now (file .entry)) at (now (words .entry)) (now (words .exit)) (now (reals .entry)) (now (reals .exit)) r ⌝ }
 {
     let m = put_corners(file, words, reals, at, n);
@@ -171,7 +171,7 @@ struct Two {
 
 // Those of segment s, which is one of an edge.
 fn normals_of(file: &[u8], words: &[u32], reals: &[f64], at: Regions, s: usize) -> Two
-    requires { ⌜ Standing (now file) at (now words) (now reals) ⌝ ∗ ⌜ s < at .vertices ⌝ ∗ ⌜ isEdge (partOf (now file)) s ≡ true ⌝ }
+    requires { ⌜ Standing (now file) at (now words) (now reals) ⌝ ∗ ⌜ s < at .vertices ⌝ ∗ ⌜ isEdge (partOf (now file)) s ≡ true ⌝ ∗ ⌜ at .segments ≡ true ⌝ }
     ensures { λ r. ⌜ Normals (partOf (now (file .entry))) s r ⌝ }
 {
     let of = sides_of(file, words, reals, at, s);

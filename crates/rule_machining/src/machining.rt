@@ -1,5 +1,6 @@
 // All rules of machining, one after the other, as dfm.rs's `machining` has them.
 ghost use mathlib.Core.Path.{_≡_};
+ghost use mathlib.Core.Bool.{true};
 ghost use Prim.Native.Nat.{_+_, _*_, _≤_};
 ghost use Rattle.file_part.specs.Part.{partOf};
 ghost use Rattle.solid_faces.specs.Faces.{facesOf};
@@ -92,7 +93,7 @@ fn corner_rule(
     numbers: &mut [f64],
     given: Given,
 ) -> usize
-    requires { ⌜ Ready (now file) (given .at) (now words) (now reals) ⌝ ∗ ⌜ Counted (partOf (now file)) (given .counts) ⌝ ∗ ⌜ given .from ≤ 65536 ⌝ }
+    requires { ⌜ Ready (now file) (given .at) (now words) (now reals) ⌝ ∗ ⌜ Counted (partOf (now file)) (given .counts) ⌝ ∗ ⌜ given .from ≤ 65536 ⌝ ∗ ⌜ given .at .segments ≡ true ⌝ }
     ensures { λ r. ⌜ RulePut sharpCorners (now (file .entry)) (given .at) (given .from) (now (words .entry)) (now (words .exit)) (now (reals .entry)) (now (reals .exit)) (now (cells .entry)) (now (cells .exit)) (now (numbers .entry)) (now (numbers .exit)) r ⌝ ∗ ⌜ r ≤ given .from + given .at .vertices ⌝ }
 {
     let at = given.at;
@@ -118,7 +119,7 @@ pub fn machining(
     numbers: &mut [f64],
     body: Body,
 ) -> usize
-    requires { ⌜ Standing (now file) (body .at) (now words) (now reals) ⌝ ∗ ⌜ body .faces ≡ facesOf (partOf (now file)) ⌝ }
+    requires { ⌜ Standing (now file) (body .at) (now words) (now reals) ⌝ ∗ ⌜ body .faces ≡ facesOf (partOf (now file)) ⌝ ∗ ⌜ body .at .segments ≡ true ⌝ }
     ensures { λ r. ⌜ MachiningPut (now (file .entry)) (body .at) (now (words .entry)) (now (words .exit)) (now (reals .entry)) (now (reals .exit)) (now (cells .entry)) (now (cells .exit)) (now (numbers .entry)) (now (numbers .exit)) r ⌝ }
 {
     let at = body.at;

@@ -1,5 +1,6 @@
 // What the rules of sheet metal ask for, put into the scratch: the readings, the rounds and the edges.
 ghost use mathlib.Core.Path.{_≡_};
+ghost use mathlib.Core.Bool.{true};
 ghost use Rattle.file_part.specs.Part.{partOf};
 ghost use Rattle.solid_faces.specs.Faces.{facesOf};
 ghost use Rattle.scratch.specs.Standing.{Standing};
@@ -18,7 +19,7 @@ pub struct Ready {
 
 // For a part of n faces whose body and whose ranks stand in the scratch. The edges come after the rounds, whose work they take.
 pub fn make_ready(file: &[u8], words: &mut [u32], reals: &mut [f64], at: Regions, n: usize) -> Ready
-    requires { ⌜ Standing (now file) at (now words) (now reals) ⌝ ∗ ⌜ Ranked (partOf (now file)) at (now words) ⌝ ∗ ⌜ n ≡ facesOf (partOf (now file)) ⌝ }
+    requires { ⌜ Standing (now file) at (now words) (now reals) ⌝ ∗ ⌜ Ranked (partOf (now file)) at (now words) ⌝ ∗ ⌜ n ≡ facesOf (partOf (now file)) ⌝ ∗ ⌜ at .segments ≡ true ⌝ }
     ensures { λ r. ⌜ ReadyPut (now (file .entry)) at (now (words .entry)) (now (words .exit)) (now (reals .entry)) (now (reals .exit)) r ⌝ }
 {
     let m = put_samples(file, words, reals, at, n);

@@ -1,5 +1,6 @@
 // All rules of sheet metal, one after the other, as dfm.rs's `sheet_metal` has them.
 ghost use mathlib.Core.Path.{_≡_};
+ghost use mathlib.Core.Bool.{true};
 ghost use Prim.Native.Nat.{_≤_, _<_};
 ghost use Rattle.file_part.specs.Part.{partOf};
 ghost use Rattle.solid_faces.specs.Faces.{facesOf};
@@ -88,7 +89,7 @@ fn put_formed(
     given: Given,
 ) -> Found
     requires { ⌜ Standing (now file) (given .at) (now words) (now reals) ⌝ ∗ ⌜ Ranked (partOf (now file)) (given .at) (now words) ⌝ }
-    requires { ⌜ given .faces ≡ facesOf (partOf (now file)) ⌝ ∗ ⌜ 0 < given .faces ⌝ ∗ ⌜ given .from ≤ 1 ⌝ }
+    requires { ⌜ given .faces ≡ facesOf (partOf (now file)) ⌝ ∗ ⌜ 0 < given .faces ⌝ ∗ ⌜ given .from ≤ 1 ⌝ ∗ ⌜ given .at .segments ≡ true ⌝ }
     ensures { λ r. ⌜ FormedPut (now (file .entry)) (given .at) (given .from) (now (words .entry)) (now (words .exit)) (now (reals .entry)) (now (reals .exit)) (now (cells .entry)) (now (cells .exit)) (now (numbers .entry)) (now (numbers .exit)) r ⌝ }
 {
     let at = given.at;
@@ -139,7 +140,7 @@ pub fn sheet_metal(
     at: Regions,
     n: usize,
 ) -> Found
-    requires { ⌜ Standing (now file) at (now words) (now reals) ⌝ ∗ ⌜ n ≡ facesOf (partOf (now file)) ⌝ ∗ ⌜ 0 < n ⌝ }
+    requires { ⌜ Standing (now file) at (now words) (now reals) ⌝ ∗ ⌜ n ≡ facesOf (partOf (now file)) ⌝ ∗ ⌜ 0 < n ⌝ ∗ ⌜ at .segments ≡ true ⌝ }
     ensures { λ r. ⌜ SheetPut (now (file .entry)) at (now (words .entry)) (now (words .exit)) (now (reals .entry)) (now (reals .exit)) (now (cells .entry)) (now (cells .exit)) (now (numbers .entry)) (now (numbers .exit)) r ⌝ }
 {
     put_ranks(file, words, reals, at, n);

@@ -1,6 +1,6 @@
 -- The laws on the regions of the scratch, and on the answer. Other crates cite these:
 -- RegionLaws
---   only-regions                        the regions follow from the counts alone
+--   only-regions                        the regions follow from the counts and from what is asked for
 -- StandingLaws
 --   placed-polygons, placed-vertices    the counts of the part
 --   standing-kept                       the body still stands after changes past its regions

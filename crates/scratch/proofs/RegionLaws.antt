@@ -1,11 +1,11 @@
--- A struct whose regions are laid out is the one of its counts.
+-- A struct whose regions are laid out is the one of its counts, and of what is asked for.
 use mathlib.Core.Path.{_≡_}
 use Prim.Native.Nat.{_+_, _*_}
 use native.Mathlib.Omega.{arith}
 use Rattle.scratch.specs.declared.regions.Regions.{Regions}
 use Rattle.scratch.specs.Regions.{Laid, regionsOf}
 
-pub only-regions : (at : Regions) → Laid at → at ≡ regionsOf (at .polygons) (at .vertices)
+pub only-regions : (at : Regions) → Laid at → at ≡ regionsOf (at .polygons) (at .vertices) (at .segments) (at .bodies)
 unfolding regionsOf
 only-regions at laid = rw (
   is-sides,

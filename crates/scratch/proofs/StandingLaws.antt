@@ -64,10 +64,10 @@ module _ (s : List ℕ) (at : Regions) (b : ℕ) (words words′ : List ℕ) (re
   words-still =
       let laid = h .placed .laid in
       record {
-        labels = labels-as (partOf s) words words′ (h .the-words .labels) (λ q l. w .front q (omega (arith, l, laid, placed-polygons s at (h .placed))))
+        labels = λ on. labels-as (partOf s) words words′ (h .the-words .labels on) (λ q l. w .front q (omega (arith, l, laid, placed-polygons s at (h .placed))))
             (omega (arith, h .words-room, laid, placed-polygons s at (h .placed), w .long));
-        sides = subst (SharedSegments (partOf s))
-            (sym (part-kept 0 words words′ (at .sides) (at .items) (w .long) (omega (arith, h .words-room, laid)) (λ i k l. w .front i l))) (h .the-words .sides);
+        sides = λ on. subst (SharedSegments (partOf s))
+            (sym (part-kept 0 words words′ (at .sides) (at .items) (w .long) (omega (arith, h .words-room, laid)) (λ i k l. w .front i l))) (h .the-words .sides on);
         chain = subst (Chain (partOf s))
             (sym (part-kept 0 words words′ (at .chain) (at .faces) (w .long) (omega (arith, h .words-room, laid)) (w .chain))) (h .the-words .chain);
         faces = subst (Faces (partOf s))
@@ -81,7 +81,7 @@ module _ (s : List ℕ) (at : Regions) (b : ℕ) (words words′ : List ℕ) (re
         planes = subst (KeptPlanes (partOf s) (at .polygons)) (sym (same 0 (at .areas) (omega (arith, laid)))) (h .the-reals .planes);
         areas = subst (KeptAreas (partOf s) (at .polygons)) (sym (same (at .areas) (at .totals) (omega (arith, laid)))) (h .the-reals .areas);
         totals = subst (FaceAreas (partOf s)) (sym (same (at .totals) (at .volumes) (omega (arith, laid)))) (h .the-reals .totals);
-        volumes = subst (Volumes (partOf s)) (sym (same (at .volumes) (at .falling) (omega arith))) (h .the-reals .volumes);
+        volumes = λ on. subst (Volumes (partOf s)) (sym (same (at .volumes) (at .falling) (omega arith))) (h .the-reals .volumes on);
       }
     where
       same : (c f : ℕ) → f ≤ at .falling → part c f reals′ ≡ part c f reals

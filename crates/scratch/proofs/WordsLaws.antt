@@ -1,6 +1,7 @@
--- The u32 scratch after its regions have been put: the bodies with their work, the sides over that work, the faces after them, and then the
--- chain over the rest of that work.
+-- The u32 scratch after its regions have been put: the bodies with their work, the sides over that work, each where it is asked for, the faces after
+-- them, and then the chain over the rest of that work.
 use mathlib.Core.Path.{_≡_, sym, ap, _∙_, subst}
+use mathlib.Core.Bool.{true, not}
 use mathlib.Core.List.{List}
 use mathlib.Core.Logic.{_⊎_, inl, inr}
 use Prim.Native.Nat.{ℕ, _+_, _-_, _*_, _≤_, _<_}
@@ -9,10 +10,11 @@ use native.Mathlib.Nat.{sub-zero, zero-add}
 use lib.ListN.{length, getD, set, take, drop, replicate, length-set, length-replicate}
 use lib.Seq.{take-take, getD-set-same, getD-set-other}
 use borrow.Rule.Slice.PartMut.{putMid}
-use Rattle.num_float.proofs.Tests.{lt-or-ge}
+use borrow.Author.Tests.{not-true}
+use Rattle.num_float.proofs.Tests.{contrary, lt-or-ge}
 use Rattle.list_laws.specs.Region.{part, Outside}
-use Rattle.list_laws.proofs.Regions.{part-length, put-length, part-put, part-before, part-place, put-before, put-inside}
-use Rattle.list_laws.proofs.Outside.{outside-then, outside-wide, outside-put, outside-part, outside-after}
+use Rattle.list_laws.proofs.Regions.{part-length, put-length, part-put, part-place, put-inside}
+use Rattle.list_laws.proofs.Outside.{outside-none, outside-then, outside-wide, outside-put, outside-part, outside-after}
 use Rattle.list_laws.proofs.Fill.{filled-at}
 use Rattle.file_part.specs.Part.{Part}
 use Rattle.solid_segments.specs.Sides.{SharedSegments}
@@ -26,64 +28,67 @@ use Rattle.solid_faces.proofs.ChainLaws.{next-here, next-other, next-end}
 use Rattle.scratch.specs.declared.regions.Regions.{Regions}
 use Rattle.scratch.specs.Regions.{Laid}
 use Rattle.scratch.specs.Standing.{Words}
-use Rattle.scratch.specs.Work.{WordsBefore}
+use Rattle.scratch.specs.Work.{LabelsPut, SidesPut, WordsBefore}
 
-module _ (at : Regions) (laid : Laid at) (s x y z : List ℕ) (room : at .words ≤ length s)
-    (lx : length x ≡ at .work - 0) (ly : length y ≡ at .faces - at .sides) (lz : length z ≡ at .readings - at .faces) where
-  abbrev pub first : List ℕ
-  first = putMid 0 (at .work - 0) s x
+-- ---- the bodies, where they are asked for: x is what their stage leaves
+module _ (t : Part) (at : Regions) (laid : Laid at) (s : List ℕ) (room : at .words ≤ length s) where
+  pub labels-none : not (at .bodies) ≡ true → LabelsPut t at s s
+  labels-none off = record { labels = λ on. absurd (contrary on (not-true _ off)); kept = outside-none 0 _ _ s }
 
-  abbrev pub second : List ℕ
-  second = putMid (at .sides) (at .faces - at .sides) first y
+  pub labels-put : (x : List ℕ) → length x ≡ at .work - 0 → at .polygons ≡ t .polygons → Bodies t x → LabelsPut t at s (putMid 0 (at .work - 0) s x)
+  labels-put x lx e b =
+      record {
+        labels = λ on. labels-as t x _ (b .labels)
+            (λ q l. put-inside 0 (at .work - 0) s x 0 (omega arith) q (omega arith) (omega (arith, l, e, lx, laid)) ∙ ap (λ (k : ℕ). getD x k 0) (sub-zero q))
+            (omega (arith, room, e, laid, put-length 0 (at .work) s x (omega (arith, room, laid)) lx));
+        kept = outside-put 0 0 (at .work) s x (omega arith) (omega (arith, room, laid)) lx;
+      }
 
+  -- ---- the sides, where they are asked for: y is what their stage leaves
+  pub sides-none : not (at .segments) ≡ true → SidesPut t at s s
+  sides-none off = record { sides = λ on. absurd (contrary on (not-true _ off)); kept = outside-none 0 _ _ s }
+
+  pub sides-put : (y : List ℕ) → length y ≡ at .faces - at .sides → at .vertices ≡ t .vertices → SharedSegments t y →
+      SidesPut t at s (putMid (at .sides) (at .faces - at .sides) s y)
+  sides-put y ly v c =
+      record {
+        sides = λ on. subst (SharedSegments t)
+            (sym (sym (take-take (at .items - at .sides) (at .faces - at .sides) (drop (at .sides) (putMid (at .sides) (at .faces - at .sides) s y)) (omega (arith, laid)))
+            ∙ ap (take (at .items - at .sides)) (part-put (at .sides) (at .faces) s y (omega (arith, room, laid)) ly)))
+            (shared-front t y (at .items - at .sides) (omega (arith, v, laid)) c);
+        kept = outside-put 0 (at .sides) (at .faces) s y (omega (arith, laid)) (omega (arith, room, laid)) ly;
+      }
+
+-- ---- the bodies, the sides and the faces z after each other
+module _ (t : Part) (at : Regions) (laid : Laid at) (s first second z : List ℕ) (room : at .words ≤ length s) (lz : length z ≡ at .readings - at .faces)
+    (b : LabelsPut t at s first) (c : SidesPut t at first second) where
   abbrev pub third : List ℕ
   third = putMid (at .faces) (at .readings - at .faces) second z
 
-  pub first-length : length first ≡ length s
-  first-length = put-length 0 (at .work) s x (omega (arith, room, laid)) lx
+  second-room : at .words ≤ length second
+  second-room = omega (arith, room, b .kept .long, c .kept .long)
 
-  pub second-length : length second ≡ length s
-  second-length = put-length (at .sides) (at .faces) first y (omega (arith, room, laid, first-length)) ly ∙ first-length
+  faces-outside : Outside 0 (at .faces) (at .readings) second third
+  faces-outside = outside-put 0 (at .faces) (at .readings) second z (omega (arith, laid)) (omega (arith, second-room, laid)) lz
 
-  third-length : length third ≡ length s
-  third-length = put-length (at .faces) (at .readings) second z (omega (arith, room, laid, second-length)) lz ∙ second-length
-
-  label-kept : (q : ℕ) → q < at .sides → getD third q 0 ≡ getD x q 0
-  label-kept q l =
-      put-before (at .faces) (at .readings - at .faces) second z 0 (omega (arith, room, laid, second-length)) q (omega (arith, l, laid))
-      ∙ put-before (at .sides) (at .faces - at .sides) first y 0 (omega (arith, room, laid, first-length)) q l
-      ∙ put-inside 0 (at .work - 0) s x 0 (omega arith) q (omega arith) (omega (arith, l, lx, laid))
-      ∙ ap (λ (k : ℕ). getD x k 0) (sub-zero q)
-
-  sides-kept : part (at .sides) (at .faces) third ≡ y
-  sides-kept =
-      part-before (at .faces) (at .readings - at .faces) (at .sides) (at .faces) second z (omega (arith, room, laid, second-length)) (omega (arith, laid)) (omega arith)
-      ∙ part-put (at .sides) (at .faces) first y (omega (arith, room, laid, first-length)) ly
-
-  front-kept : part (at .sides) (at .items) third ≡ take (at .items - at .sides) y
-  front-kept =
-      sym (take-take (at .items - at .sides) (at .faces - at .sides) (drop (at .sides) third) (omega (arith, laid)))
-      ∙ ap (take (at .items - at .sides)) sides-kept
-
-  faces-kept : part (at .faces) (at .readings) third ≡ z
-  faces-kept = part-put (at .faces) (at .readings) second z (omega (arith, room, laid, second-length)) lz
-
-  all-words : (t : Part) → at .polygons ≡ t .polygons → at .vertices ≡ t .vertices → Bodies t x → SharedSegments t y → Faces t z → WordsBefore t at third
-  all-words t e v b c f =
+  all-words : at .polygons ≡ t .polygons → Faces t z → WordsBefore t at third
+  all-words e f =
       record {
-        labels = labels-as t x third (b .labels) (λ q l. label-kept q (omega (arith, l, e, laid))) (omega (arith, room, e, laid, third-length));
-        sides = subst (SharedSegments t) (sym front-kept) (shared-front t y (at .items - at .sides) (omega (arith, v, laid)) c);
-        faces = subst (Faces t) (sym faces-kept) f;
+        labels = λ on. labels-as t first third (b .labels on)
+            (λ q l. faces-outside .below q (omega (arith, l, e, laid)) ∙ c .kept .below q (omega (arith, l, e, laid)))
+            (omega (arith, second-room, e, laid, faces-outside .long));
+        sides = λ on. subst (SharedSegments t)
+            (sym (outside-part 0 (at .faces) (at .readings) (at .sides) (at .items) second third (omega (arith, laid)) (omega (arith, second-room, laid)) faces-outside)) (c .sides on);
+        faces = subst (Faces t) (sym (part-put (at .faces) (at .readings) second z (omega (arith, second-room, laid)) lz)) f;
       }
 
   outside : Outside 0 0 (at .readings) s third
   outside =
-      outside-then 0 _ _ s first third (outside-wide 0 _ _ 0 (at .readings) s first (omega arith) (omega (arith, laid)) (outside-put 0 0 (at .work) s x (omega arith) (omega (arith, room, laid)) lx))
-      (outside-then 0 _ _ first second third
-      (outside-wide 0 _ _ 0 (at .readings) first second (omega arith) (omega (arith, laid)) (outside-put 0 (at .sides) (at .faces) first y (omega (arith, laid)) (omega (arith, room, laid, first-length)) ly))
-      (outside-wide 0 _ _ 0 (at .readings) second third (omega arith) (omega arith) (outside-put 0 (at .faces) (at .readings) second z (omega (arith, laid)) (omega (arith, room, laid, second-length)) lz)))
+      outside-then 0 _ _ s first third (outside-wide 0 _ _ 0 (at .readings) s first (omega arith) (omega (arith, laid)) (b .kept))
+      (outside-then 0 _ _ first second third (outside-wide 0 _ _ 0 (at .readings) first second (omega arith) (omega (arith, laid)) (c .kept))
+      (outside-wide 0 _ _ 0 (at .readings) second third (omega arith) (omega arith) faces-outside))
 
-  pub words-put : ((t : Part) → at .polygons ≡ t .polygons → at .vertices ≡ t .vertices → Bodies t x → SharedSegments t y → Faces t z → WordsBefore t at third) × Outside 0 0 (at .readings) s third
+  pub words-put : (at .polygons ≡ t .polygons → Faces t z → WordsBefore t at third) × Outside 0 0 (at .readings) s third
   words-put = (all-words, outside)
 
 -- then the chain
@@ -91,9 +96,9 @@ pub words-chain : (t : Part) (at : Regions) (words words′ : List ℕ) → Laid
     Chain t (part (at .chain) (at .faces) words′) → Outside 0 (at .chain) (at .faces) words words′ → Words t at words′
 words-chain t at words words′ laid room e w chain o =
     record {
-      labels = labels-as t words words′ (w .labels) (λ q l. o .below q (omega (arith, l, e, laid))) (omega (arith, room, e, laid, o .long));
-      sides = subst (SharedSegments t)
-          (sym (outside-part 0 (at .chain) (at .faces) (at .sides) (at .items) words words′ (omega (arith, laid)) (omega (arith, room, laid)) o)) (w .sides);
+      labels = λ on. labels-as t words words′ (w .labels on) (λ q l. o .below q (omega (arith, l, e, laid))) (omega (arith, room, e, laid, o .long));
+      sides = λ on. subst (SharedSegments t)
+          (sym (outside-part 0 (at .chain) (at .faces) (at .sides) (at .items) words words′ (omega (arith, laid)) (omega (arith, room, laid)) o)) (w .sides on);
       chain = chain;
       faces = subst (Faces t)
           (sym (outside-after 0 (at .chain) (at .faces) (at .faces) (at .readings) words words′ (omega arith) (omega (arith, room, laid)) o)) (w .faces);
@@ -192,9 +197,9 @@ link-at t at words q laid room w e l =
     sym (part-place (at .chain) (at .faces) words 0 q (omega (arith, l, e, w .chain .long, long))) ∙ w .chain .each q (omega (arith, l, e))
 
 -- ---- the bodies as they are lent to the volumes
-pub labels-lent : (t : Part) (at : Regions) (words : List ℕ) → Laid at → at .words ≤ length words → at .polygons ≡ t .polygons → Words t at words →
+pub labels-lent : (t : Part) (at : Regions) (words : List ℕ) → Laid at → at .words ≤ length words → at .polygons ≡ t .polygons → Words t at words → at .bodies ≡ true →
     Labels t (part 0 (at .polygons) words)
-labels-lent t at words laid room e w =
-    labels-as t words (part 0 (at .polygons) words) (w .labels)
+labels-lent t at words laid room e w on =
+    labels-as t words (part 0 (at .polygons) words) (w .labels on)
     (λ q l. part-place 0 (at .polygons) words 0 q (omega (arith, l, e)) ∙ ap (λ (k : ℕ). getD words k 0) (zero-add q))
     (omega (arith, e, part-length 0 (at .polygons) words (omega (arith, room, laid))))

@@ -1,5 +1,6 @@
 -- The regions of the lent scratch, as numbers of cells. Definitions only.
 use mathlib.Core.Path.{_≡_}
+use mathlib.Core.Bool.{Bool}
 use Prim.Native.Nat.{ℕ, _+_, _*_, _≤_}
 use Rattle.scratch.specs.declared.regions.Regions.{Regions}
 
@@ -15,8 +16,9 @@ pub record Laid (at : Regions) : Type 0 where
   -- as many as an accepted part has at most
   pub few : at .polygons ≤ 4096
   pub short : at .vertices ≤ 16384
-  -- ---- u32: from 0 on the body of each polygon, by its lowest polygon
-  -- three cells a side; while the bodies are found their work stands here, to before `work`, and while the sides are paired eight cells a side
+  -- ---- u32: from 0 on the body of each polygon, by its lowest polygon, where bodies are put
+  -- three cells a side, where segments are put; while the bodies are found their work stands here, to before `work`, and while the sides are paired
+  -- eight cells a side
   pub sides : at .sides ≡ at .polygons
   pub work : at .work ≡ at .sides + 6 * at .vertices
   -- sides that are put in order, by their places before that ..
@@ -46,7 +48,7 @@ pub record Laid (at : Regions) : Type 0 where
   pub areas : at .areas ≡ 4 * at .polygons
   -- the area of each face
   pub totals : at .totals ≡ at .areas + at .polygons
-  -- the volume of each body, at its lowest polygon
+  -- the volume of each body, at its lowest polygon, where bodies are put
   pub volumes : at .volumes ≡ at .totals + 1024
   -- the area of each polygon, negated: the keys by which polygons go by falling area
   pub falling : at .falling ≡ at .volumes + at .polygons
@@ -62,12 +64,14 @@ pub record Laid (at : Regions) : Type 0 where
   -- the end
   pub reals : at .reals ≡ realsNeeded (at .polygons) (at .vertices)
 
--- ---- the same as a function of P and V: `only-regions` of the laws says that a struct which is laid out so is this one
-unfoldable pub regionsOf : ℕ → ℕ → Regions
-regionsOf p v =
+-- ---- the same as a function of P and V, and of what is asked for: `only-regions` of the laws says that a struct which is laid out so is this one
+unfoldable pub regionsOf : ℕ → ℕ → Bool → Bool → Regions
+regionsOf p v segments bodies =
     record {
       polygons = p;
       vertices = v;
+      segments = segments;
+      bodies = bodies;
       sides = p;
       items = p + 3 * v;
       sorted = p + 4 * v;

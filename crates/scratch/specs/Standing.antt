@@ -1,5 +1,6 @@
 -- What the lent scratch holds once a part's body has been put there, by the part alone. Definitions only.
 use mathlib.Core.Path.{_≡_}
+use mathlib.Core.Bool.{true}
 use mathlib.Core.List.{List}
 use Prim.Native.Nat.{ℕ, _≤_, _<_}
 use lib.ListN.{length, getD}
@@ -22,10 +23,11 @@ pub record Placed (s : List ℕ) (at : Regions) : Type 0 where
   pub polygons : at .polygons ≡ polygonCount s
   pub vertices : at .vertices ≡ vertexCount s
 
--- the u32 scratch
+-- the u32 scratch. Bodies and volumes are found for SLA and SLS alone, and segments where a rule asks for edges: what a process does not ask for is
+-- not computed, and nothing is said of its cells
 pub record Words (t : Part) (at : Regions) (words : List ℕ) : Type 0 where
-  pub labels : Labels t words
-  pub sides : SharedSegments t (part (at .sides) (at .items) words)
+  pub labels : at .bodies ≡ true → Labels t words
+  pub sides : at .segments ≡ true → SharedSegments t (part (at .sides) (at .items) words)
   pub chain : Chain t (part (at .chain) (at .faces) words)
   pub faces : Faces t (part (at .faces) (at .readings) words)
 
@@ -34,7 +36,7 @@ pub record Reals (t : Part) (at : Regions) (reals : List Float) : Type 0 where
   pub planes : KeptPlanes t (at .polygons) (part 0 (at .areas) reals)
   pub areas : KeptAreas t (at .polygons) (part (at .areas) (at .totals) reals)
   pub totals : FaceAreas t (part (at .totals) (at .volumes) reals)
-  pub volumes : Volumes t (part (at .volumes) (at .falling) reals)
+  pub volumes : at .bodies ≡ true → Volumes t (part (at .volumes) (at .falling) reals)
 
 -- the body of a file's part stands in the scratch: what every later stage requires
 pub record Standing (s : List ℕ) (at : Regions) (words : List ℕ) (reals : List Float) : Type 0 where

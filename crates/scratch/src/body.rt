@@ -1,4 +1,4 @@
-// The body of a part in the lent scratch: everything that the rules ask of it.
+// The body of a part in the lent scratch: everything that the rules of its process ask of it.
 ghost use mathlib.Core.Path.{_≡_};
 ghost use Prim.Native.Nat.{_≤_};
 ghost use lib.ListN.{length};
@@ -8,7 +8,7 @@ ghost use Rattle.file_part.specs.Part.{partOf};
 ghost use Rattle.solid_faces.specs.Faces.{facesOf};
 ghost use Rattle.solid_faces.specs.Kept.{Faces, Chain, KeptAreas};
 ghost use Rattle.scratch.specs.Standing.{Placed, Words, Reals, Standing};
-ghost use Rattle.scratch.specs.Work.{TotalsPut};
+ghost use Rattle.scratch.specs.Work.{LabelsPut, SidesPut, TotalsPut, VolumesPut};
 use crate::regions::Regions;
 use list_cells::fill_reals;
 use list_cells::wide;
@@ -36,18 +36,41 @@ fn put_chain(file: &[u8], words: &mut [u32], at: Regions)
     }
 }
 
-// The bodies, the sides, the faces and the polygons of each. The number of faces.
+// The body of each polygon, where the process asks for bodies.
+fn put_labels(file: &[u8], words: &mut [u32], at: Regions)
+    requires { ⌜ Placed (now file) at ⌝ ∗ ⌜ at .words ≤ length (now words) ⌝ }
+    ensures { λ r. ⌜ LabelsPut (partOf (now (file .entry))) at (now (words .entry)) (now (words .exit)) ⌝ }
+{
+    if !at.bodies {
+        return;
+    }
+    let start: usize = 0;
+    let work = at.work;
+    solid_bodies::label::bodies(file, &mut words[start..work]);
+}
+
+// The sides, where the process asks for segments.
+fn put_sides(file: &[u8], words: &mut [u32], at: Regions)
+    requires { ⌜ Placed (now file) at ⌝ ∗ ⌜ at .words ≤ length (now words) ⌝ }
+    ensures { λ r. ⌜ SidesPut (partOf (now (file .entry))) at (now (words .entry)) (now (words .exit)) ⌝ }
+{
+    if !at.segments {
+        return;
+    }
+    let sides = at.sides;
+    let faces = at.faces;
+    solid_segments::shared::shared_segments(file, &mut words[sides..faces]);
+}
+
+// The bodies and the sides that are asked for, the faces and the polygons of each. The number of faces.
 fn put_words(file: &[u8], words: &mut [u32], at: Regions) -> usize
     requires { ⌜ Placed (now file) at ⌝ ∗ ⌜ at .words ≤ length (now words) ⌝ }
     ensures { λ r. ⌜ r ≡ facesOf (partOf (now (file .entry))) ⌝ ∗ ⌜ Words (partOf (now (file .entry))) at (now (words .exit)) ⌝ }
     ensures { λ r. ⌜ Outside 0 0 (at .readings) (now (words .entry)) (now (words .exit)) ⌝ }
 {
-    let start: usize = 0;
-    let work = at.work;
-    solid_bodies::label::bodies(file, &mut words[start..work]);
-    let sides = at.sides;
+    put_labels(file, words, at);
+    put_sides(file, words, at);
     let faces = at.faces;
-    solid_segments::shared::shared_segments(file, &mut words[sides..faces]);
     let end = at.readings;
     let n = solid_faces::faces::faces(file, &mut words[faces..end]);
     put_chain(file, words, at);
@@ -75,7 +98,23 @@ fn put_totals(file: &[u8], words: &[u32], reals: &mut [f64], at: Regions)
     }
 }
 
-// The planes, the areas of polygons and faces, and the volumes, where the words are put.
+// The volume of each body, where the process asks for bodies.
+fn put_volumes(file: &[u8], words: &[u32], reals: &mut [f64], at: Regions)
+    requires { ⌜ Placed (now file) at ⌝ ∗ ⌜ at .words ≤ length (now words) ⌝ ∗ ⌜ Words (partOf (now file)) at (now words) ⌝ }
+    requires { ⌜ at .reals ≤ length (now reals) ⌝ }
+    ensures { λ r. ⌜ VolumesPut (partOf (now (file .entry))) at (now (reals .entry)) (now (reals .exit)) ⌝ }
+{
+    if !at.bodies {
+        return;
+    }
+    let start: usize = 0;
+    let polygons = at.polygons;
+    let volume = at.volumes;
+    let end = at.falling;
+    volumes(file, &words[start..polygons], &mut reals[volume..end]);
+}
+
+// The planes, the areas of polygons and faces, and the volumes that are asked for, where the words are put.
 fn put_reals(file: &[u8], words: &[u32], reals: &mut [f64], at: Regions)
     requires { ⌜ Placed (now file) at ⌝ ∗ ⌜ at .words ≤ length (now words) ⌝ ∗ ⌜ Words (partOf (now file)) at (now words) ⌝ }
     requires { ⌜ at .reals ≤ length (now reals) ⌝ }
@@ -88,13 +127,10 @@ fn put_reals(file: &[u8], words: &[u32], reals: &mut [f64], at: Regions)
     let totals = at.totals;
     put_areas(file, &mut reals[areas..totals]);
     put_totals(file, words, reals, at);
-    let polygons = at.polygons;
-    let volume = at.volumes;
-    let end = at.falling;
-    volumes(file, &words[start..polygons], &mut reals[volume..end]);
+    put_volumes(file, words, reals, at);
 }
 
-// The body of a part. The number of its faces.
+// The body of a part, as far as it is asked for. The number of its faces.
 pub fn put_body(file: &[u8], words: &mut [u32], reals: &mut [f64], at: Regions) -> usize
     requires { ⌜ Placed (now file) at ⌝ ∗ ⌜ at .words ≤ length (now words) ⌝ ∗ ⌜ at .reals ≤ length (now reals) ⌝ }
     ensures { λ r. ⌜ r ≡ facesOf (partOf (now (file .entry))) ⌝ ∗ ⌜ Standing (now (file .entry)) at (now (words .exit)) (now (reals .exit)) ⌝ }

@@ -2,6 +2,7 @@
 ghost use mathlib.Core.Path.{_≡_};
 ghost use Rattle.scratch.specs.Refusal.{bodyRefusal};
 use crate::regions::Regions;
+use crate::regions::Stages;
 
 // Why the body of a part is not put into this many cells, by the number of the refusal, 1 to 10; 0 where it is put.
 pub fn body_refusal(file: &[u8], words: usize, reals: usize) -> u32
@@ -11,7 +12,13 @@ pub fn body_refusal(file: &[u8], words: usize, reals: usize) -> u32
     if refusal != 0 {
         return refusal;
     }
-    let at = Regions::of(file);
+    let at = Regions::of(
+        file,
+        Stages {
+            segments: false,
+            bodies: false,
+        },
+    );
     if (words < at.words) | (reals < at.reals) {
         return 10;
     }

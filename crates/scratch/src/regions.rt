@@ -1,5 +1,6 @@
 // Where each region of the lent scratch begins. No other crate counts cells: they take these numbers.
 ghost use mathlib.Core.Path.{_≡_};
+ghost use mathlib.Core.Bool.{false};
 ghost use Prim.Native.Nat.{_≤_};
 ghost use Rattle.solid_faces.specs.Faces.{Checked};
 ghost use Rattle.scratch.specs.Regions.{Laid};
@@ -7,10 +8,22 @@ ghost use Rattle.scratch.specs.Standing.{Placed};
 use file_part::read::polygon_count;
 use file_part::read::vertex_count;
 
+// What a process asks for of a body past its faces, planes and areas: what it does not ask for is not computed.
+pub struct Stages {
+    // the shared segments: machining and sheet metal
+    pub segments: bool,
+    // the bodies and their volumes: SLA and SLS
+    pub bodies: bool,
+}
+
 // For a part of so many polygons and vertices. What stands in each region: specs/Regions.antt.
 pub struct Regions {
     pub polygons: usize,
     pub vertices: usize,
+    // the shared segments are put
+    pub segments: bool,
+    // the bodies and their volumes are put
+    pub bodies: bool,
     // u32, after the bodies of the polygons, which stand from 0 on
     pub sides: usize,
     pub items: usize,
@@ -39,9 +52,26 @@ pub struct Regions {
 }
 
 impl Regions {
+    // For a part of so many polygons and vertices, of which neither segments nor bodies are asked for.
     pub fn new(polygons: usize, vertices: usize) -> Regions
         requires { ⌜ polygons ≤ 4096 ⌝ ∗ ⌜ vertices ≤ 16384 ⌝ }
         ensures { λ r. ⌜ Laid r ⌝ ∗ ⌜ r .polygons ≡ polygons ⌝ ∗ ⌜ r .vertices ≡ vertices ⌝ }
+        ensures { λ r. ⌜ r .segments ≡ false ⌝ ∗ ⌜ r .bodies ≡ false ⌝ }
+    {
+        Regions::lay(
+            polygons,
+            vertices,
+            Stages {
+                segments: false,
+                bodies: false,
+            },
+        )
+    }
+
+    fn lay(polygons: usize, vertices: usize, stages: Stages) -> Regions
+        requires { ⌜ polygons ≤ 4096 ⌝ ∗ ⌜ vertices ≤ 16384 ⌝ }
+        ensures { λ r. ⌜ Laid r ⌝ ∗ ⌜ r .polygons ≡ polygons ⌝ ∗ ⌜ r .vertices ≡ vertices ⌝ }
+        ensures { λ r. ⌜ r .segments ≡ stages .segments ⌝ ∗ ⌜ r .bodies ≡ stages .bodies ⌝ }
     {
         let items = polygons + 3 * vertices;
         let sorted = items + vertices;
@@ -59,6 +89,8 @@ impl Regions {
         Regions {
             polygons: polygons,
             vertices: vertices,
+            segments: stages.segments,
+            bodies: stages.bodies,
             sides: polygons,
             items: items,
             sorted: sorted,
@@ -85,11 +117,11 @@ impl Regions {
         }
     }
 
-    // For the part of a file.
-    pub fn of(file: &[u8]) -> Regions
+    // For the part of a file, and what its process asks for.
+    pub fn of(file: &[u8], stages: Stages) -> Regions
         requires { ⌜ Checked (now file) ⌝ }
-        ensures { λ r. ⌜ Placed (now (file .entry)) r ⌝ }
+        ensures { λ r. ⌜ Placed (now (file .entry)) r ⌝ ∗ ⌜ r .segments ≡ stages .segments ⌝ ∗ ⌜ r .bodies ≡ stages .bodies ⌝ }
     {
-        Regions::new(polygon_count(file), vertex_count(file))
+        Regions::lay(polygon_count(file), vertex_count(file), stages)
     }
 }

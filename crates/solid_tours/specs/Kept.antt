@@ -60,6 +60,8 @@ sidesAt t at words i e = map (itemSide t) (part i e (edgeOrder at words))
 -- all that a tour asks for
 pub record EdgesOrdered (s : List ℕ) (at : Regions) (words : List ℕ) (reals : List Float) : Type 0 where
   pub standing : Standing s at words reals
+  -- the shared segments are put
+  pub edged : at .segments ≡ true
   pub ranked : Ranked (partOf s) at words
   pub sides : (k : ℕ) → k < itemCount (partOf s) → getD words (at .items + k) 0 ≡ itemSide (partOf s) k
   pub keyed : Keyed (edgeKeys at reals) (itemKey (partOf s)) (itemCount (partOf s)) (facesOf (partOf s) * facesOf (partOf s))

@@ -1,5 +1,6 @@
 // The edges of a part as items, each under both its faces, sorted once.
 ghost use mathlib.Core.Path.{_≡_};
+ghost use mathlib.Core.Bool.{true};
 ghost use Prim.Native.Nat.{_+_, _*_, _≤_, _<_};
 ghost use lib.ListN.{length};
 ghost use Rattle.list_groups.specs.Groups.{passing};
@@ -34,7 +35,7 @@ struct Turn {
 // Keeps a side twice, under its own face and under the face beyond, where it is an edge. How many items there are then.
 fn put_edge(file: &[u8], words: &mut [u32], reals: &mut [f64], at: Regions, turn: Turn) -> usize
     requires { ⌜ Standing (now file) at (now words) (now reals) ⌝ ∗ ⌜ Ranked (partOf (now file)) at (now words) ⌝ ∗ ⌜ turn .faces ≡ facesOf (partOf (now file)) ⌝ }
-    requires { ⌜ turn .side < at .vertices ⌝ ∗ ⌜ turn .before ≡ 2 * length (passing (isEdge (partOf (now file))) (turn .side)) ⌝ }
+    requires { ⌜ turn .side < at .vertices ⌝ ∗ ⌜ turn .before ≡ 2 * length (passing (isEdge (partOf (now file))) (turn .side)) ⌝ ∗ ⌜ at .segments ≡ true ⌝ }
     ensures { λ r. ⌜ EdgePut (partOf (now (file .entry))) at (turn .side) (turn .before) (now (words .entry)) (now (words .exit)) (now (reals .entry)) (now (reals .exit)) r ⌝ }
 {
     let s = turn.side;
@@ -63,7 +64,7 @@ fn put_edge(file: &[u8], words: &mut [u32], reals: &mut [f64], at: Regions, turn
 
 // All edges, in the order of the shared segments. How many items there are.
 fn put_edges(file: &[u8], words: &mut [u32], reals: &mut [f64], at: Regions, n: usize) -> usize
-    requires { ⌜ Standing (now file) at (now words) (now reals) ⌝ ∗ ⌜ Ranked (partOf (now file)) at (now words) ⌝ ∗ ⌜ n ≡ facesOf (partOf (now file)) ⌝ }
+    requires { ⌜ Standing (now file) at (now words) (now reals) ⌝ ∗ ⌜ Ranked (partOf (now file)) at (now words) ⌝ ∗ ⌜ n ≡ facesOf (partOf (now file)) ⌝ ∗ ⌜ at .segments ≡ true ⌝ }
     ensures { λ r. ⌜ AllPut (now (file .entry)) at (now (words .entry)) (now (words .exit)) (now (reals .entry)) (now (reals .exit)) r ⌝ }
 {
     let vertices = at.vertices;
@@ -89,7 +90,7 @@ pub fn order_edges(
     at: Regions,
     n: usize,
 ) -> usize
-    requires { ⌜ Standing (now file) at (now words) (now reals) ⌝ ∗ ⌜ Ranked (partOf (now file)) at (now words) ⌝ ∗ ⌜ n ≡ facesOf (partOf (now file)) ⌝ }
+    requires { ⌜ Standing (now file) at (now words) (now reals) ⌝ ∗ ⌜ Ranked (partOf (now file)) at (now words) ⌝ ∗ ⌜ n ≡ facesOf (partOf (now file)) ⌝ ∗ ⌜ at .segments ≡ true ⌝ }
     ensures { λ r. ⌜ EdgesPut (now (file .entry)) at (now (words .entry)) (now (words .exit)) (now (reals .entry)) (now (reals .exit)) r ⌝ }
 {
     let m = put_edges(file, words, reals, at, n);

@@ -19,7 +19,7 @@ of-requires : tie.Need-of-requires
 of-requires c κs = put-checked _ _ _ _ (c .before .before .body-refusal .ensures) (c .before .if1 .left)
 
 put-body-requires : tie.Need-put-body-requires
-put-body-requires c κs = (c .before .before .of .ensures, put-room _ _ _ _ _ (c .before .before .before .before .before .body-refusal .ensures) (c .before .before .before .before .if1 .left) (c .before .before .of .ensures))
+put-body-requires c κs = (c .before .before .of .ensures .0, put-room _ _ _ _ _ (c .before .before .before .before .before .body-refusal .ensures) (c .before .before .before .before .if1 .left) (c .before .before .of .ensures .0))
 
 put-samples-requires : tie.Need-put-samples-requires
 put-samples-requires c κs = (c .before .before .before .before .before .before .put-body .ensures .1 .0, c .before .before .before .before .before .before .put-body .ensures .0)
@@ -42,7 +42,7 @@ same-length-3 c = simp length-set refl
 returns-3 : tie.Need-returns-3
 returns-3 c =
     rough-put _ _ _ _ _ (c .before .before .before .before .before .before .before .before .before .before .before .before .before .before .before .before .before .before .before .before .before .before .body-refusal .ensures) (c .before .before .before .before .before .before .before .before .before .before .before .before .before .before .before .before .before .before .before .before .before .if1 .left) (c .before .before .before .before .before .before .before .before .before .before .before .before .before .before .before .before .before .before .before .before .if2 .left) _ _ _ (c .before .before .rough .ensures .0)
-    (median-put _ _ _ _ _ _ _ _ (c .before .before .before .before .before .before .before .before .before .put-samples .ensures .1 .1 .0) (c .before .before .before .before .before .before .before .before .before .before .before .before .before .before .before .before .put-body .ensures .1 .1 .0) (c .before .before .before .before .before .before .before .before .before .before .before .before .before .before .before .before .put-body .ensures .1 .1 .1) _ (c .before .before .before .before .before .before .before .before .before .put-samples .ensures .1 .1 .1 .0) (c .before .before .before .before .before .before .before .before .before .put-samples .ensures .1 .1 .1 .1) (c .before .before .before .before .before .before .before .before .before .put-samples .ensures .1 .0) (c .before .before .rough .ensures .1))
+    (median-put _ _ _ _ _ _ _ _ (c .before .before .before .before .before .before .before .before .before .put-samples .ensures .1 .1 .0) (c .before .before .before .before .before .before .before .before .before .before .before .before .before .before .before .before .put-body .ensures .1 .1 .0) (c .before .before .before .before .before .before .before .before .before .before .before .before .before .before .before .before .put-body .ensures .1 .1 .1) (c .before .before .before .before .before .before .before .before .before .before .before .before .before .before .before .before .before .before .before .of .ensures .1) _ (c .before .before .before .before .before .before .before .before .before .put-samples .ensures .1 .1 .1 .0) (c .before .before .before .before .before .before .before .before .before .put-samples .ensures .1 .1 .1 .1) (c .before .before .before .before .before .before .before .before .before .put-samples .ensures .1 .0) (c .before .before .rough .ensures .1))
 
 pub gablemadder-rough-spec : {M : Type 1} → statement M
 gablemadder-rough-spec =

@@ -25,23 +25,23 @@ abbrev μ-loop : tie.MeasureT-loop
 
 -- the number of rounds
 few : (c : tie.At-loop Inv-loop μ-loop) → (c .loop .n ≤ 1024) × (3 * c .loop .n + 1 ≤ length (now (c .before .before .before .before .before .before .before .before .before .before .before .before .before .before .before .before .before .before .before .before .before .before .before .before .args .faces)))
-few c = rounds-room _ _ _ _ _ _ _ _ (c .before .before .before .before .before .before .before .before .before .before .before .before .before .before .before .before .of .ensures) (c .before .before .before .before .before .before .before .before .before .before .before .before .before .before .before .if2 .left) (c .loop .inv .1) _ (c .before .before .before .before .before .before .before .before .before .before .before .before .put-body .ensures .0) (c .loop .inv .0)
+few c = rounds-room _ _ _ _ _ _ _ _ (c .before .before .before .before .before .before .before .before .before .before .before .before .before .before .before .before .of .ensures .0) (c .before .before .before .before .before .before .before .before .before .before .before .before .before .before .before .if2 .left) (c .loop .inv .1) _ (c .before .before .before .before .before .before .before .before .before .before .before .before .put-body .ensures .0) (c .loop .inv .0)
 
 -- there is a face f
 low : (c : tie.In-loop Inv-loop μ-loop) → c .before .loop .f < facesOf (partOf (now (c .before .before .before .before .before .before .before .before .before .before .before .before .before .before .before .before .before .before .before .before .before .before .before .before .before .args .file)))
 low c = omega (arith, c .loop-test .taken, c .before .before .before .before .before .before .before .before .before .before .before .before .before .put-body .ensures .0)
 
 below : (c : tie.In-loop Inv-loop μ-loop) → c .before .loop .f < c .before .before .before .before .before .before .before .before .before .before .before .before .before .before .before .before .before .of .result .polygons
-below c = face-low _ _ _ (c .before .before .before .before .before .before .before .before .before .before .before .before .before .before .before .before .before .of .ensures) (low c) .0
+below c = face-low _ _ _ (c .before .before .before .before .before .before .before .before .before .before .before .before .before .before .before .before .before .of .ensures .0) (low c) .0
 
 -- its kind
 kind : (c : tie.In-loop Inv-loop μ-loop) → getD (c .before .before .before .before .before .before .put-rounds .last .1 .0) (c .before .before .before .before .before .before .before .before .before .before .before .before .before .before .before .before .before .of .result .kinds + c .before .loop .f) 0 ≡ roundKind (partOf (now (c .before .before .before .before .before .before .before .before .before .before .before .before .before .before .before .before .before .before .before .before .before .before .before .before .before .args .file))) (c .before .loop .f)
 kind c =
-    kind-at _ (c .before .before .before .before .before .before .before .before .before .before .before .before .before .before .before .before .before .of .result) _ (c .before .before .before .before .before .before .put-rounds .last .1 .1 .0) _ (c .before .before .before .before .before .before .before .before .before .before .before .before .before .before .before .before .before .of .ensures .laid) (c .before .before .before .before .before .before .put-rounds .ensures .0) (low c) (below c)
+    kind-at _ (c .before .before .before .before .before .before .before .before .before .before .before .before .before .before .before .before .before .of .result) _ (c .before .before .before .before .before .before .put-rounds .last .1 .1 .0) _ (c .before .before .before .before .before .before .before .before .before .before .before .before .before .before .before .before .before .of .ensures .0 .laid) (c .before .before .before .before .before .before .put-rounds .ensures .0) (low c) (below c)
 
 -- and room for its cells in both lists
 room : (c : tie.In-loop Inv-loop μ-loop) → (3 * c .before .loop .n + 4 ≤ length (c .before .loop .faces)) × (11 * c .before .loop .n + 11 ≤ length (c .before .loop .numbers))
-room c = round-room _ _ _ _ _ _ _ _ (c .before .before .before .before .before .before .before .before .before .before .before .before .before .before .before .before .before .of .ensures) (c .before .before .before .before .before .before .before .before .before .before .before .before .before .before .before .before .if2 .left) (c .before .loop .inv .1) (low c)
+room c = round-room _ _ _ _ _ _ _ _ (c .before .before .before .before .before .before .before .before .before .before .before .before .before .before .before .before .before .of .ensures .0) (c .before .before .before .before .before .before .before .before .before .before .before .before .before .before .before .before .if2 .left) (c .before .loop .inv .1) (low c)
 
 returns : tie.Need-returns Inv-loop μ-loop
 returns c = rounds-refused _ _ _ _ _ _ (c .before .body-refusal .ensures) (c .if1 .taken)
@@ -50,19 +50,19 @@ of-requires : tie.Need-of-requires Inv-loop μ-loop
 of-requires c κs = put-checked _ _ _ _ (c .before .body-refusal .ensures) (c .if1 .left)
 
 mul-if2 : tie.Need-mul-if2 Inv-loop μ-loop
-mul-if2 c = omega (arith, c .of .ensures .laid)
+mul-if2 c = omega (arith, c .of .ensures .0 .laid)
 
 add-if2 : tie.Need-add-if2 Inv-loop μ-loop
-add-if2 c = omega (arith, c .of .ensures .laid)
+add-if2 c = omega (arith, c .of .ensures .0 .laid)
 
 mul-if2-2 : tie.Need-mul-if2-2 Inv-loop μ-loop
-mul-if2-2 c = omega (arith, c .of .ensures .laid)
+mul-if2-2 c = omega (arith, c .of .ensures .0 .laid)
 
 returns-2 : tie.Need-returns-2 Inv-loop μ-loop
-returns-2 c = rounds-short _ _ _ _ _ _ (c .before .before .before .body-refusal .ensures) (c .before .before .if1 .left) _ (c .before .of .ensures .polygons) (c .if2 .taken)
+returns-2 c = rounds-short _ _ _ _ _ _ (c .before .before .before .body-refusal .ensures) (c .before .before .if1 .left) _ (c .before .of .ensures .0 .polygons) (c .if2 .taken)
 
 put-body-requires : tie.Need-put-body-requires Inv-loop μ-loop
-put-body-requires c κs = (c .before .before .before .of .ensures, put-room _ _ _ _ _ (c .before .before .before .before .before .body-refusal .ensures) (c .before .before .before .before .if1 .left) (c .before .before .before .of .ensures))
+put-body-requires c κs = (c .before .before .before .of .ensures .0, put-room _ _ _ _ _ (c .before .before .before .before .before .body-refusal .ensures) (c .before .before .before .before .if1 .left) (c .before .before .before .of .ensures .0))
 
 put-rounds-requires : tie.Need-put-rounds-requires Inv-loop μ-loop
 put-rounds-requires c κs = (c .before .before .before .before .before .before .put-body .ensures .1 .0, c .before .before .before .before .before .before .put-body .ensures .0)
@@ -71,13 +71,13 @@ loop-holds : tie.Need-loop-holds Inv-loop μ-loop
 loop-holds c = (omega arith, list-none _ _ _)
 
 add-if3 : tie.Need-add-if3 Inv-loop μ-loop
-add-if3 c = omega (arith, c .before .before .before .before .before .before .before .before .before .before .before .before .before .before .before .before .before .of .ensures .laid, below (c))
+add-if3 c = omega (arith, c .before .before .before .before .before .before .before .before .before .before .before .before .before .before .before .before .before .of .ensures .0 .laid, below (c))
 
 mul-if3 : tie.Need-mul-if3 Inv-loop μ-loop
-mul-if3 c = omega (arith, c .before .before .before .before .before .before .before .before .before .before .before .before .before .before .before .before .before .of .ensures .laid, below (c))
+mul-if3 c = omega (arith, c .before .before .before .before .before .before .before .before .before .before .before .before .before .before .before .before .before .of .ensures .0 .laid, below (c))
 
 slice-read-if3 : tie.Need-slice-read-if3 Inv-loop μ-loop
-slice-read-if3 c = omega (arith, c .before .before .before .before .before .before .before .before .before .before .before .before .before .before .before .before .before .before .of .ensures .laid, below (c .before), c .before .before .before .before .before .before .before .put-rounds .ensures .1 .0 .words-room)
+slice-read-if3 c = omega (arith, c .before .before .before .before .before .before .before .before .before .before .before .before .before .before .before .before .before .before .of .ensures .0 .laid, below (c .before), c .before .before .before .before .before .before .before .put-rounds .ensures .1 .0 .words-room)
 
 round-at-requires : tie.Need-round-at-requires Inv-loop μ-loop
 round-at-requires c κs = (c .before .before .before .before .before .before .before .before .before .before .before .before .put-rounds .ensures .1 .0, (c .before .before .before .before .before .before .before .before .before .before .before .before .put-rounds .ensures .0, (low (c .before .before .before .before .before .before), kind-round _ _ (λ z. c .before .before .before .before .if3 .taken (kind (c .before .before .before .before .before .before) ∙ z)))))
@@ -125,8 +125,8 @@ same-length-4 c = c .before .loop .inv .1 .number-rows .kept .long
 
 returns-3 : tie.Need-returns-3 Inv-loop μ-loop
 returns-3 c =
-    rounds-listed _ _ _ _ _ _ (c .before .before .before .before .before .before .before .before .before .before .before .before .before .before .before .before .before .before .before .body-refusal .ensures) (c .before .before .before .before .before .before .before .before .before .before .before .before .before .before .before .before .before .before .if1 .left) _ (c .before .before .before .before .before .before .before .before .before .before .before .before .before .before .before .before .before .of .ensures .polygons) (c .before .before .before .before .before .before .before .before .before .before .before .before .before .before .before .before .if2 .left) _ _ _ _
-    (rounds-put _ _ _ _ _ _ _ _ (c .before .before .before .before .before .before .put-rounds .ensures .1 .0) (c .before .before .before .before .before .before .before .before .before .before .before .before .before .put-body .ensures .1 .1 .0) (c .before .before .before .before .before .before .before .before .before .before .before .before .before .put-body .ensures .1 .1 .1) (c .before .before .before .before .before .before .put-rounds .ensures .1 .1 .0) (c .before .before .before .before .before .before .put-rounds .ensures .1 .1 .1) (c .before .before .before .before .before .before .put-rounds .ensures .0))
+    rounds-listed _ _ _ _ _ _ (c .before .before .before .before .before .before .before .before .before .before .before .before .before .before .before .before .before .before .before .body-refusal .ensures) (c .before .before .before .before .before .before .before .before .before .before .before .before .before .before .before .before .before .before .if1 .left) _ (c .before .before .before .before .before .before .before .before .before .before .before .before .before .before .before .before .before .of .ensures .0 .polygons) (c .before .before .before .before .before .before .before .before .before .before .before .before .before .before .before .before .if2 .left) _ _ _ _
+    (rounds-put _ _ _ _ _ _ _ _ (c .before .before .before .before .before .before .put-rounds .ensures .1 .0) (c .before .before .before .before .before .before .before .before .before .before .before .before .before .put-body .ensures .1 .1 .0) (c .before .before .before .before .before .before .before .before .before .before .before .before .before .put-body .ensures .1 .1 .1) (c .before .before .before .before .before .before .before .before .before .before .before .before .before .before .before .before .before .of .ensures .1) (c .before .before .before .before .before .before .put-rounds .ensures .1 .1 .0) (c .before .before .before .before .before .before .put-rounds .ensures .1 .1 .1) (c .before .before .before .before .before .before .put-rounds .ensures .0))
     (list-all _ _ _ _ _ _ _ (c .before .loop .inv .1) _ (c .before .before .before .before .before .before .before .before .before .before .before .before .before .put-body .ensures .0) (c .before .loop .inv .0) (c .loop-test .left) (few (c .before) .1))
 
 pub gablemadder-round-list-spec : {M : Type 1} → statement M

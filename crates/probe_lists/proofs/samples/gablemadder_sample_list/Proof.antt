@@ -21,7 +21,7 @@ abbrev μ-loop : tie.MeasureT-loop
 
 -- the lists have cells for all readings
 few : (c : tie.After-put-samples Inv-loop μ-loop) → Few (c .put-samples .result) (length (now (c .before .before .before .before .before .before .before .before .before .before .before .before .before .before .before .before .before .before .before .args .faces))) (length (now (c .before .before .before .before .before .before .before .before .before .before .before .before .before .before .before .before .before .before .before .args .numbers)))
-few c = readings-few _ _ _ _ _ (c .before .before .before .before .before .before .before .before .before .before .before .of .ensures) (c .put-samples .ensures .0) (c .before .before .before .before .before .before .before .before .before .before .if2 .left)
+few c = readings-few _ _ _ _ _ (c .before .before .before .before .before .before .before .before .before .before .before .of .ensures .0) (c .put-samples .ensures .0) (c .before .before .before .before .before .before .before .before .before .before .if2 .left)
 
 -- there is a reading k
 low : (c : tie.In-loop Inv-loop μ-loop) → c .before .loop .k < length (readingsOf (partOf (now (c .before .before .before .before .before .before .before .before .before .before .before .before .before .before .before .before .before .before .before .before .before .before .before .before .before .args .file))))
@@ -41,19 +41,19 @@ of-requires : tie.Need-of-requires Inv-loop μ-loop
 of-requires c κs = put-checked _ _ _ _ (c .before .body-refusal .ensures) (c .if1 .left)
 
 mul-if2 : tie.Need-mul-if2 Inv-loop μ-loop
-mul-if2 c = omega (arith, c .of .ensures .laid)
+mul-if2 c = omega (arith, c .of .ensures .0 .laid)
 
 add-if2 : tie.Need-add-if2 Inv-loop μ-loop
-add-if2 c = omega (arith, c .of .ensures .laid)
+add-if2 c = omega (arith, c .of .ensures .0 .laid)
 
 mul-if2-2 : tie.Need-mul-if2-2 Inv-loop μ-loop
-mul-if2-2 c = omega (arith, c .of .ensures .laid)
+mul-if2-2 c = omega (arith, c .of .ensures .0 .laid)
 
 returns-2 : tie.Need-returns-2 Inv-loop μ-loop
-returns-2 c = samples-short _ _ _ _ _ _ (c .before .before .before .body-refusal .ensures) (c .before .before .if1 .left) _ (c .before .of .ensures .polygons) (c .if2 .taken)
+returns-2 c = samples-short _ _ _ _ _ _ (c .before .before .before .body-refusal .ensures) (c .before .before .if1 .left) _ (c .before .of .ensures .0 .polygons) (c .if2 .taken)
 
 put-body-requires : tie.Need-put-body-requires Inv-loop μ-loop
-put-body-requires c κs = (c .before .before .before .of .ensures, put-room _ _ _ _ _ (c .before .before .before .before .before .body-refusal .ensures) (c .before .before .before .before .if1 .left) (c .before .before .before .of .ensures))
+put-body-requires c κs = (c .before .before .before .of .ensures .0, put-room _ _ _ _ _ (c .before .before .before .before .before .body-refusal .ensures) (c .before .before .before .before .if1 .left) (c .before .before .before .of .ensures .0))
 
 put-samples-requires : tie.Need-put-samples-requires Inv-loop μ-loop
 put-samples-requires c κs = (c .before .before .before .before .before .before .put-body .ensures .1 .0, c .before .before .before .before .before .before .put-body .ensures .0)
@@ -101,8 +101,8 @@ same-length-4 c = c .before .loop .inv .1 .number-rows .kept .long
 
 returns-3 : tie.Need-returns-3 Inv-loop μ-loop
 returns-3 c =
-    samples-listed _ _ _ _ _ _ (c .before .before .before .before .before .before .before .before .before .before .before .before .before .before .before .before .before .before .before .body-refusal .ensures) (c .before .before .before .before .before .before .before .before .before .before .before .before .before .before .before .before .before .before .if1 .left) _ (c .before .before .before .before .before .before .before .before .before .before .before .before .before .before .before .before .before .of .ensures .polygons) (c .before .before .before .before .before .before .before .before .before .before .before .before .before .before .before .before .if2 .left) _ _ _ _
-    (readings-put _ _ _ _ _ _ _ _ (c .before .before .before .before .before .before .put-samples .ensures .1 .1 .0) (c .before .before .before .before .before .before .before .before .before .before .before .before .before .put-body .ensures .1 .1 .0) (c .before .before .before .before .before .before .before .before .before .before .before .before .before .put-body .ensures .1 .1 .1) (c .before .before .before .before .before .before .put-samples .ensures .1 .1 .1 .0) (c .before .before .before .before .before .before .put-samples .ensures .1 .1 .1 .1) (c .before .before .before .before .before .before .put-samples .ensures .1 .0))
+    samples-listed _ _ _ _ _ _ (c .before .before .before .before .before .before .before .before .before .before .before .before .before .before .before .before .before .before .before .body-refusal .ensures) (c .before .before .before .before .before .before .before .before .before .before .before .before .before .before .before .before .before .before .if1 .left) _ (c .before .before .before .before .before .before .before .before .before .before .before .before .before .before .before .before .before .of .ensures .0 .polygons) (c .before .before .before .before .before .before .before .before .before .before .before .before .before .before .before .before .if2 .left) _ _ _ _
+    (readings-put _ _ _ _ _ _ _ _ (c .before .before .before .before .before .before .put-samples .ensures .1 .1 .0) (c .before .before .before .before .before .before .before .before .before .before .before .before .before .put-body .ensures .1 .1 .0) (c .before .before .before .before .before .before .before .before .before .before .before .before .before .put-body .ensures .1 .1 .1) (c .before .before .before .before .before .before .before .before .before .before .before .before .before .before .before .before .before .of .ensures .1) (c .before .before .before .before .before .before .put-samples .ensures .1 .1 .1 .0) (c .before .before .before .before .before .before .put-samples .ensures .1 .1 .1 .1) (c .before .before .before .before .before .before .put-samples .ensures .1 .0))
     (list-all _ _ _ _ _ _ _ (c .before .before .before .before .before .before .put-samples .ensures .0) (c .before .loop .inv .0) (c .loop-test .left) (few (c .before .before .before .before .before .before) .face-room) (c .before .loop .inv .1))
 
 pub gablemadder-sample-list-spec : {M : Type 1} → statement M

@@ -50,7 +50,7 @@ of-requires : tie.Need-of-requires Inv-loop μ-loop
 of-requires c κs = put-checked _ _ _ _ (c .before .before .body-refusal .ensures) (c .before .if1 .left)
 
 put-body-requires : tie.Need-put-body-requires Inv-loop μ-loop
-put-body-requires c κs = let room = put-room _ _ _ _ _ (c .before .before .before .before .before .body-refusal .ensures) (c .before .before .before .before .if1 .left) (c .before .before .of .ensures) in (c .before .before .of .ensures, (room .0, room .1))
+put-body-requires c κs = let room = put-room _ _ _ _ _ (c .before .before .before .before .before .body-refusal .ensures) (c .before .before .before .before .if1 .left) (c .before .before .of .ensures .0) in (c .before .before .of .ensures .0, (room .0, room .1))
 
 loop-holds : tie.Need-loop-holds Inv-loop μ-loop
 loop-holds c = (omega arith, cast-none _ _ _ _)
@@ -65,7 +65,7 @@ raycast-requires : tie.Need-raycast-requires Inv-loop μ-loop
 raycast-requires c κs = put (c .before .before .before .before) .put-body .ensures .1 .0
 
 cast-polygons : tie.Need-cast-polygons Inv-loop μ-loop
-cast-polygons c = omega (arith, polygon-small _ _ _ _ _ (regions (c .before .before .before .before .before .before) .of .ensures) (c .before .raycast .ensures .scanned) (c .polygon-or .ensures))
+cast-polygons c = omega (arith, polygon-small _ _ _ _ _ (regions (c .before .before .before .before .before .before) .of .ensures .0) (c .before .raycast .ensures .scanned) (c .polygon-or .ensures))
 
 mul-polygons : tie.Need-mul-polygons Inv-loop μ-loop
 mul-polygons c = omega (arith, lent (c .before .before .before .before .before) .0, start (c .before .before .before .before .before .before) .good .1 .1 .1 .1 .0)
@@ -89,7 +89,7 @@ loop-again : tie.Need-loop-again Inv-loop μ-loop
 loop-again c =
     let l = lent (c .before .before .before .before .before .before) in (
       omega (arith, c .before .before .before .before .before .before .loop-test .taken),
-      cast-more _ _ _ _ _ _ _ _ _ _ _ _ (l .0) (l .1) (placed-polygons _ _ (regions (c .before .before .before .before .before .before .before) .of .ensures)) (c .before .before .before .ray-at .ensures) (c .before .before .raycast .ensures .scanned)
+      cast-more _ _ _ _ _ _ _ _ _ _ _ _ (l .0) (l .1) (placed-polygons _ _ (regions (c .before .before .before .before .before .before .before) .of .ensures .0)) (c .before .before .before .ray-at .ensures) (c .before .before .raycast .ensures .scanned)
           (c .before .polygon-or .ensures) (c .time-or-zero .ensures) (c .before .before .before .before .before .before .before .loop .inv .1),
     )
 
@@ -110,7 +110,7 @@ returns-3 c =
     let e = passed (c .before) in
     let b = put (c .before) .put-body .ensures in
     cast-answered _ _ _ _ _ _ _ (e .before .before .body-refusal .ensures) _ _ _ _ _ (e .before .if1 .left) (e .if2 .left)
-    (record { at = regions (c .before) .of .result; standing = b .1 .0; words-kept = b .1 .1 .0; reals-kept = b .1 .1 .1 })
+    (record { at = regions (c .before) .of .result; whole = regions (c .before) .of .ensures .1; standing = b .1 .0; words-kept = b .1 .1 .0; reals-kept = b .1 .1 .1 })
     (c .before .loop .inv .0) (c .loop-test .left) (c .before .loop .inv .1)
 
 pub gablemadder-raycast-spec : {M : Type 1} → statement M

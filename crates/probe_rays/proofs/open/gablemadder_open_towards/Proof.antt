@@ -44,7 +44,7 @@ of-requires : tie.Need-of-requires Inv-loop μ-loop
 of-requires c κs = put-checked _ _ _ _ (c .before .before .body-refusal .ensures) (c .before .if1 .left)
 
 put-body-requires : tie.Need-put-body-requires Inv-loop μ-loop
-put-body-requires c κs = let room = put-room _ _ _ _ _ (c .before .before .before .before .before .body-refusal .ensures) (c .before .before .before .before .if1 .left) (c .before .before .of .ensures) in (c .before .before .of .ensures, (room .0, room .1))
+put-body-requires c κs = let room = put-room _ _ _ _ _ (c .before .before .before .before .before .body-refusal .ensures) (c .before .before .before .before .if1 .left) (c .before .before .of .ensures .0) in (c .before .before .of .ensures .0, (room .0, room .1))
 
 loop-holds : tie.Need-loop-holds Inv-loop μ-loop
 loop-holds c = (omega arith, open-none _ _ _)
@@ -91,7 +91,7 @@ returns-3 c =
     let e = passed (c .before) in
     let b = put (c .before) .put-body .ensures in
     open-answered _ _ _ _ _ _ (e .before .before .body-refusal .ensures) _ _ _ _ (e .before .if1 .left) (e .if2 .left)
-    (record { at = regions (c .before) .of .result; standing = b .1 .0; words-kept = b .1 .1 .0; reals-kept = b .1 .1 .1 })
+    (record { at = regions (c .before) .of .result; whole = regions (c .before) .of .ensures .1; standing = b .1 .0; words-kept = b .1 .1 .0; reals-kept = b .1 .1 .1 })
     (c .before .loop .inv .0) (c .loop-test .left) (c .before .loop .inv .1)
 
 pub gablemadder-open-towards-spec : {M : Type 1} → statement M

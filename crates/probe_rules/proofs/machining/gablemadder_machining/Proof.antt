@@ -14,10 +14,10 @@ of-requires : tie.Need-of-requires
 of-requires c κs = put-checked _ _ _ _ (c .before .body-refusal .ensures) (c .if1 .left)
 
 put-body-requires : tie.Need-put-body-requires
-put-body-requires c κs = let room = put-room _ _ _ _ _ (c .before .before .before .before .body-refusal .ensures) (c .before .before .before .if1 .left) (c .before .before .of .ensures) in (c .before .before .of .ensures, (room .0, room .1))
+put-body-requires c κs = let room = put-room _ _ _ _ _ (c .before .before .before .before .body-refusal .ensures) (c .before .before .before .if1 .left) (c .before .before .of .ensures .0) in (c .before .before .of .ensures .0, (room .0, room .1))
 
 machining-requires : tie.Need-machining-requires
-machining-requires c κs = (c .before .before .before .before .before .before .before .before .put-body .ensures .1 .0, c .before .before .before .before .before .before .before .before .put-body .ensures .0)
+machining-requires c κs = (c .before .before .before .before .before .before .before .before .put-body .ensures .1 .0, (c .before .before .before .before .before .before .before .before .put-body .ensures .0, c .before .before .before .before .before .before .before .before .before .before .before .of .ensures .1 .0))
 
 cast-result : tie.Need-cast-result
 cast-result c = omega (arith, c .before .before .before .before .before .before .before .before .machining .ensures .few)
@@ -38,7 +38,7 @@ same-length-4 : tie.Need-same-length-4
 same-length-4 c = c .before .before .before .before .before .before .before .before .machining .ensures .put .numbers-kept .long
 
 returns-2 : tie.Need-returns-2
-returns-2 c = machining-found _ _ _ _ (c .before .before .before .before .before .before .before .before .before .before .before .before .before .before .before .before .before .before .before .before .before .before .body-refusal .ensures) (c .before .before .before .before .before .before .before .before .before .before .before .before .before .before .before .before .before .before .before .before .before .if1 .left) _ (c .before .before .before .before .before .before .before .before .before .before .before .before .before .before .before .before .before .before .before .before .of .ensures) _ _ _ _ (c .before .before .before .before .before .before .before .before .before .before .before .before .before .before .before .before .before .put-body .ensures .1 .1 .0) (c .before .before .before .before .before .before .before .before .before .before .before .before .before .before .before .before .before .put-body .ensures .1 .1 .1) _ _ _ _ _ (c .before .before .before .before .before .before .before .before .machining .ensures)
+returns-2 c = machining-found _ _ _ _ (c .before .before .before .before .before .before .before .before .before .before .before .before .before .before .before .before .before .before .before .before .before .before .body-refusal .ensures) (c .before .before .before .before .before .before .before .before .before .before .before .before .before .before .before .before .before .before .before .before .before .if1 .left) _ (c .before .before .before .before .before .before .before .before .before .before .before .before .before .before .before .before .before .before .before .before .of .ensures .0) _ _ _ _ (c .before .before .before .before .before .before .before .before .before .before .before .before .before .before .before .before .before .put-body .ensures .1 .1 .0) (c .before .before .before .before .before .before .before .before .before .before .before .before .before .before .before .before .before .put-body .ensures .1 .1 .1) _ _ _ _ _ (c .before .before .before .before .before .before .before .before .machining .ensures)
 
 pub gablemadder-machining-spec : {M : Type 1} → statement M
 gablemadder-machining-spec =

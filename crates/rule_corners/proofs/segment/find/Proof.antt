@@ -31,13 +31,13 @@ part-edge-at-end-2 : tie.Need-part-edge-at-end-2
 part-edge-at-end-2 c = omega (arith, c .before .before .before .before .pre .0 .placed .laid, c .before .before .before .before .pre .0 .words-room)
 
 edge-at-requires : tie.Need-edge-at-requires
-edge-at-requires c κs = (standing-lent _ _ _ _ (c .before .before .before .before .before .pre .0), omega (arith, c .before .before .before .before .before .pre .1, c .before .before .before .before .before .pre .0 .placed .vertices))
+edge-at-requires c κs = (standing-lent _ _ _ _ (c .before .before .before .before .before .pre .0) (c .before .before .before .before .before .pre .1 .1), omega (arith, c .before .before .before .before .before .pre .1 .0, c .before .before .before .before .before .pre .0 .placed .vertices))
 
 returns : tie.Need-returns
 returns c = found-no-edge _ _ _ (c .before .before .edge-at .ensures) (not-true _ (c .if1 .taken))
 
 is-inside-requires : tie.Need-is-inside-requires
-is-inside-requires c κs = (c .before .before .before .before .before .before .before .before .pre .0, (c .before .before .before .before .before .before .before .before .pre .1, edge-is _ _ _ (c .before .before .edge-at .ensures) _ (not-false _ (c .if1 .left))))
+is-inside-requires c κs = (c .before .before .before .before .before .before .before .before .pre .0, (c .before .before .before .before .before .before .before .before .pre .1 .0, (edge-is _ _ _ (c .before .before .edge-at .ensures) _ (not-false _ (c .if1 .left)), c .before .before .before .before .before .before .before .before .pre .1 .1)))
 
 returns-2 : tie.Need-returns-2
 returns-2 c = found-no-corner _ _ _ (c .before .before .before .before .edge-at .ensures) _ (c .before .is-inside .ensures) (not-true _ (c .if2 .taken))

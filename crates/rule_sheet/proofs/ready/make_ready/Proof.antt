@@ -4,13 +4,13 @@ use Rattle.rule_sheet.proofs.ready.make_ready.Statement.{statement}
 use Rattle.rule_sheet.proofs.ready.make_ready.Tie as tie
 
 put-samples-requires : tie.Need-put-samples-requires
-put-samples-requires c κs = (c .before .before .before .before .before .pre .0, c .before .before .before .before .before .pre .1 .1)
+put-samples-requires c κs = (c .before .before .before .before .before .pre .0, c .before .before .before .before .before .pre .1 .1 .0)
 
 put-rounds-requires : tie.Need-put-rounds-requires
-put-rounds-requires c κs = (c .before .before .before .before .before .before .put-samples .ensures .1 .1 .0, c .before .before .before .before .before .before .before .before .before .before .before .before .pre .1 .1)
+put-rounds-requires c κs = (c .before .before .before .before .before .before .put-samples .ensures .1 .1 .0, c .before .before .before .before .before .before .before .before .before .before .before .before .pre .1 .1 .0)
 
 order-edges-requires : tie.Need-order-edges-requires
-order-edges-requires c κs = (c .before .before .before .before .before .before .put-rounds .ensures .1 .0, (ranked-still _ _ _ _ _ _ _ _ (c .before .before .before .before .before .before .before .before .before .before .before .before .before .before .before .before .before .before .before .pre .0) (c .before .before .before .before .before .before .before .before .before .before .before .before .before .before .before .before .before .before .before .pre .1 .0) (c .before .before .before .before .before .before .before .before .before .before .before .before .before .put-samples .ensures .1 .0) (c .before .before .before .before .before .before .before .before .before .before .before .before .before .put-samples .ensures .1 .1 .1 .0) (c .before .before .before .before .before .before .before .before .before .before .before .before .before .put-samples .ensures .1 .1 .1 .1) (c .before .before .before .before .before .before .put-rounds .ensures .0) (c .before .before .before .before .before .before .put-rounds .ensures .1 .0) (c .before .before .before .before .before .before .put-rounds .ensures .1 .1 .0) (c .before .before .before .before .before .before .put-rounds .ensures .1 .1 .1), c .before .before .before .before .before .before .before .before .before .before .before .before .before .before .before .before .before .before .before .pre .1 .1))
+order-edges-requires c κs = (c .before .before .before .before .before .before .put-rounds .ensures .1 .0, (ranked-still _ _ _ _ _ _ _ _ (c .before .before .before .before .before .before .before .before .before .before .before .before .before .before .before .before .before .before .before .pre .0) (c .before .before .before .before .before .before .before .before .before .before .before .before .before .before .before .before .before .before .before .pre .1 .0) (c .before .before .before .before .before .before .before .before .before .before .before .before .before .put-samples .ensures .1 .0) (c .before .before .before .before .before .before .before .before .before .before .before .before .before .put-samples .ensures .1 .1 .1 .0) (c .before .before .before .before .before .before .before .before .before .before .before .before .before .put-samples .ensures .1 .1 .1 .1) (c .before .before .before .before .before .before .put-rounds .ensures .0) (c .before .before .before .before .before .before .put-rounds .ensures .1 .0) (c .before .before .before .before .before .before .put-rounds .ensures .1 .1 .0) (c .before .before .before .before .before .before .put-rounds .ensures .1 .1 .1), (c .before .before .before .before .before .before .before .before .before .before .before .before .before .before .before .before .before .before .before .pre .1 .1 .0, c .before .before .before .before .before .before .before .before .before .before .before .before .before .before .before .before .before .before .before .pre .1 .1 .1)))
 
 same-length : tie.Need-same-length
 same-length c = words-all _ _ _ _ _ _ _ _ (c .before .before .before .before .before .before .before .before .before .before .before .before .before .before .before .before .before .before .before .before .before .before .before .before .pre .0) (c .before .before .before .before .before .before .before .before .before .before .before .before .before .before .before .before .before .before .before .before .before .before .before .before .pre .1 .0) (c .before .before .before .before .before .before .before .before .before .before .before .before .before .before .before .before .before .before .put-samples .ensures .1 .0) (c .before .before .before .before .before .before .before .before .before .before .before .before .before .before .before .before .before .before .put-samples .ensures .1 .1 .1 .0) (c .before .before .before .before .before .before .before .before .before .before .before .before .before .before .before .before .before .before .put-samples .ensures .1 .1 .1 .1) (c .before .before .before .before .before .before .before .before .before .before .before .put-rounds .ensures .0) (c .before .before .before .before .before .before .before .before .before .before .before .put-rounds .ensures .1 .0) (c .before .before .before .before .before .before .before .before .before .before .before .put-rounds .ensures .1 .1 .0) (c .before .before .before .before .before .before .before .before .before .before .before .put-rounds .ensures .1 .1 .1) _ _ _ (c .before .before .before .before .order-edges .ensures) .long

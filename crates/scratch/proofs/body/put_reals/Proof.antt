@@ -10,9 +10,6 @@ use denote.Ref.{now}
 use Rattle.list_laws.proofs.Regions.{part-length, put-length, part-put}
 use Rattle.file_part.specs.Part.{partOf}
 use Rattle.solid_faces.specs.Kept.{KeptAreas, KeptPlanes}
-use Rattle.solid_faces.proofs.BodyLaws.{checked-readable}
-use Rattle.scratch.proofs.StandingLaws.{placed-polygons}
-use Rattle.scratch.proofs.WordsLaws.{labels-lent}
 use Rattle.scratch.proofs.RealsLaws.{reals-put}
 use native.Mathlib.Omega.{arith}
 use Rattle.scratch.proofs.body.put_reals.Statement.{statement}
@@ -78,45 +75,19 @@ put-totals-requires c κs =
     let there = part-put (c .before .before .before .before .before .before .before .before .before .before .before .before .args .at .areas) (c .before .before .before .before .before .before .before .before .before .before .before .before .args .at .totals) (one (c .before .before .before .before .before .before .before)) (c .before .before .before .put-areas .last .1 .0) (omega (arith, c .before .before .before .before .before .before .before .before .before .before .before .before .pre .0 .laid, c .before .before .before .before .before .before .before .before .before .before .before .before .pre .1 .1 .1, one-long (c .before .before .before .before .before .before .before))) (areas-long y) in
     (c .before .before .before .before .before .before .before .before .before .before .before .before .pre .0, (c .before .before .before .before .before .before .before .before .before .before .before .before .pre .1 .0, (c .before .before .before .before .before .before .before .before .before .before .before .before .pre .1 .1 .0, (omega (arith, c .before .before .before .before .before .before .before .before .before .before .before .before .pre .1 .1 .1, two-long y), subst (KeptAreas (partOf (now (c .before .before .before .before .before .before .before .before .before .before .before .before .args .file))) (c .before .before .before .before .before .before .before .before .before .before .before .before .args .at .polygons)) (sym there) (areas y)))))
 
-mul-volumes : tie.Need-mul-volumes
-mul-volumes c = omega (arith, c .before .before .before .before .before .before .before .before .before .before .before .before .before .before .before .pre .0 .laid)
-
-sub-volumes : tie.Need-sub-volumes
-sub-volumes c = omega (arith, c .before .before .before .before .before .before .before .before .before .before .before .before .before .before .before .pre .0 .laid)
-
-part-volumes-start : tie.Need-part-volumes-start
-part-volumes-start c = omega (arith, c .before .before .before .before .before .before .before .before .before .before .before .before .before .before .before .pre .0 .laid)
-
-part-volumes-end : tie.Need-part-volumes-end
-part-volumes-end c = omega (arith, c .before .before .before .before .before .before .before .before .before .before .before .before .before .before .before .pre .0 .laid, c .before .before .before .before .before .before .before .before .before .before .before .before .before .before .before .pre .1 .0)
-
-mul-volumes-2 : tie.Need-mul-volumes-2
-mul-volumes-2 c = omega (arith, c .before .before .before .before .before .before .before .before .before .before .before .before .before .before .before .before .pre .0 .laid)
-
-sub-volumes-2 : tie.Need-sub-volumes-2
-sub-volumes-2 c = omega (arith, c .before .before .before .before .before .before .before .before .before .before .before .before .before .before .before .before .pre .0 .laid)
-
-part-volumes-start-2 : tie.Need-part-volumes-start-2
-part-volumes-start-2 c = omega (arith, c .before .before .before .before .before .before .before .before .before .before .before .before .before .before .before .before .pre .0 .laid, c .before .before .before .before .before .before .before .before .before .before .before .before .before .before .before .before .pre .1 .1 .1, three-long (c .before .before .before))
-
-part-volumes-end-2 : tie.Need-part-volumes-end-2
-part-volumes-end-2 c = omega (arith, c .before .before .before .before .before .before .before .before .before .before .before .before .before .before .before .before .pre .0 .laid, c .before .before .before .before .before .before .before .before .before .before .before .before .before .before .before .before .pre .1 .1 .1, three-long (c .before .before .before))
-
-volumes-requires : tie.Need-volumes-requires
-volumes-requires c κs = (
-  checked-readable _ (c .before .before .before .before .before .before .before .before .before .before .before .before .before .before .before .before .before .pre .0 .checked),
-  (
-    labels-lent _ (c .before .before .before .before .before .before .before .before .before .before .before .before .before .before .before .before .before .args .at) (now (c .before .before .before .before .before .before .before .before .before .before .before .before .before .before .before .before .before .args .words)) (c .before .before .before .before .before .before .before .before .before .before .before .before .before .before .before .before .before .pre .0 .laid) (c .before .before .before .before .before .before .before .before .before .before .before .before .before .before .before .before .before .pre .1 .0) (placed-polygons _ _ (c .before .before .before .before .before .before .before .before .before .before .before .before .before .before .before .before .before .pre .0)) (c .before .before .before .before .before .before .before .before .before .before .before .before .before .before .before .before .before .pre .1 .1 .0),
-    part-length (c .before .before .before .before .before .before .before .before .before .before .before .before .before .before .before .before .before .args .at .volumes) (c .before .before .before .before .before .before .before .before .before .before .before .before .before .before .before .before .before .args .at .falling) (c .before .before .before .before .put-totals .last .1 .1 .0) (omega (arith, c .before .before .before .before .before .before .before .before .before .before .before .before .before .before .before .before .before .pre .0 .laid, c .before .before .before .before .before .before .before .before .before .before .before .before .before .before .before .before .before .pre .1 .1 .1, three-long (c .before .before .before .before))) ∙ omega (arith, c .before .before .before .before .before .before .before .before .before .before .before .before .before .before .before .before .before .pre .0 .laid, c .before .before .before .before .before .before .before .before .before .before .before .before .before .before .before .before .before .pre .0),
-  ),
-)
+put-volumes-requires : tie.Need-put-volumes-requires
+put-volumes-requires c κs =
+    let s = c .before .before .before .before .before .before .before .before .before .before .before .before .before .before .before .before in
+    (s .pre .0, (s .pre .1 .0, (s .pre .1 .1 .0, omega (arith, s .pre .1 .1 .1, three-long (c .before .before .before)))))
 
 returns : tie.Need-returns
 returns c =
-    let lz = c .before .before .volumes .kept .1 .1 .0 ∙ part-length (c .before .before .before .before .before .before .before .before .before .before .before .before .before .before .before .before .before .before .before .before .args .at .volumes) (c .before .before .before .before .before .before .before .before .before .before .before .before .before .before .before .before .before .before .before .before .args .at .falling) (c .before .before .before .before .before .before .before .put-totals .last .1 .1 .0) (omega (arith, c .before .before .before .before .before .before .before .before .before .before .before .before .before .before .before .before .before .before .before .before .pre .0 .laid, c .before .before .before .before .before .before .before .before .before .before .before .before .before .before .before .before .before .before .before .before .pre .1 .1 .1, three-long (c .before .before .before .before .before .before .before))) in
-    let planes = subst (λ (k : ℕ). KeptPlanes (partOf (now (c .before .before .before .before .before .before .before .before .before .before .before .before .before .before .before .before .before .before .before .before .args .file))) k (c .before .before .before .before .before .before .before .before .before .before .before .before .before .before .before .put-planes .last .1 .0)) (sym (c .before .before .before .before .before .before .before .before .before .before .before .before .before .before .before .before .before .before .before .before .pre .0 .polygons)) (c .before .before .before .before .before .before .before .before .before .before .before .before .before .before .before .put-planes .ensures .0) in
-    let put = reals-put _ (c .before .before .before .before .before .before .before .before .before .before .before .before .before .before .before .before .before .before .before .before .args .at) (c .before .before .before .before .before .before .before .before .before .before .before .before .before .before .before .before .before .before .before .before .pre .0 .laid) (c .before .before .before .before .before .before .before .before .before .before .before .before .before .before .before .before .before .before .before .before .args .reals .now) _ _ _ (c .before .before .volumes .last .1 .1 .0) (c .before .before .before .before .before .before .before .before .before .before .before .before .before .before .before .before .before .before .before .before .pre .1 .1 .1) (planes-long (c .before .before .before .before .before .before .before .before .before .before .before .before .before .before .before)) (areas-long (c .before .before .before .before .before .before .before .before .before .before .before)) lz (c .before .before .before .before .before .before .before .put-totals .ensures) in
-    (put .0 planes (areas (c .before .before .before .before .before .before .before .before .before .before .before)) (c .before .before .volumes .ensures), put .1)
+    let s = c .before .before .before .before .before .before .before .before .before .before .before .before .before .before .before .before .before .before .before in
+    let x = c .before .before .before .before .before .before .before .before .before .before .before .before .before .before in
+    let y = c .before .before .before .before .before .before .before .before .before .before in
+    let planes = subst (λ (k : ℕ). KeptPlanes (partOf (now (s .args .file))) k (x .put-planes .last .1 .0)) (sym (s .pre .0 .polygons)) (x .put-planes .ensures .0) in
+    let put = reals-put _ (s .args .at) (s .pre .0 .laid) (s .args .reals .now) _ _ _ _ (s .pre .1 .1 .1) (planes-long x) (areas-long y) (c .before .before .before .before .before .before .put-totals .ensures) (c .before .before .put-volumes .ensures) in
+    (put .0 planes (areas y), put .1)
 
 pub put-reals-spec : {M : Type 1} → statement M
 put-reals-spec =
@@ -133,14 +104,6 @@ put-reals-spec =
     part-put-areas-end
     put-areas-requires
     put-totals-requires
-    mul-volumes
-    sub-volumes
-    part-volumes-start
-    part-volumes-end
-    mul-volumes-2
-    sub-volumes-2
-    part-volumes-start-2
-    part-volumes-end-2
-    volumes-requires
+    put-volumes-requires
     (λ c. search needs)
     returns)

@@ -13,10 +13,10 @@ of-requires : tie.Need-of-requires
 of-requires c κs = is-checked _ _ _ (c .before .before .judge .ensures) (c .before .refusal .ensures) (c .if1 .left)
 
 returns-2 : tie.Need-returns-2
-returns-2 c = refusal-cells _ _ _ _ true (c .before .before .before .of .ensures) (c .if2 .taken)
+returns-2 c = refusal-cells _ _ _ _ true (c .before .before .before .of .ensures .0) (c .if2 .taken)
 
 returns-3 : tie.Need-returns-3
-returns-3 c = refusal-cells _ _ _ _ false (c .before .before .before .of .ensures) (c .if2 .left)
+returns-3 c = refusal-cells _ _ _ _ false (c .before .before .before .of .ensures .0) (c .if2 .left)
 
 pub body-refusal-spec : {M : Type 1} → statement M
 body-refusal-spec =

@@ -56,7 +56,7 @@ part-nearer-end-2 : tie.Need-part-nearer-end-2 Inv-loop μ-loop
 part-nearer-end-2 c = omega (arith, c .before .before .before .before .before .before .before .pre .0 .standing .placed .laid, c .before .before .before .before .before .before .before .pre .0 .standing .words-room, c .before .before .before .before .before .before .before .pre .0 .standing .reals-room, most _ _ _ _ (c .before .before .before .before .before .before .before .pre .0))
 
 nearer-requires : tie.Need-nearer-requires Inv-loop μ-loop
-nearer-requires c κs = (standing-lent _ _ _ _ (c .before .before .before .before .before .before .before .before .pre .0 .standing), omega (arith, c .before .before .item-at .ensures .below, placed-vertices _ _ (c .before .before .before .before .before .before .before .before .pre .0 .standing .placed), c .before .before .before .before .before .before .before .before .pre .0 .standing .placed .vertices))
+nearer-requires c κs = (standing-lent _ _ _ _ (c .before .before .before .before .before .before .before .before .pre .0 .standing) (c .before .before .before .before .before .before .before .before .pre .0 .edged), omega (arith, c .before .before .item-at .ensures .below, placed-vertices _ _ (c .before .before .before .before .before .before .before .before .pre .0 .standing .placed), c .before .before .before .before .before .before .before .before .pre .0 .standing .placed .vertices))
 
 add-j : tie.Need-add-j Inv-loop μ-loop
 add-j c = omega (arith, c .before .before .before .before .loop-test .taken, c .before .before .before .before .before .before .before .before .before .pre .1 .1, c .before .before .before .before .before .before .before .before .before .pre .0 .standing .placed .laid, c .before .before .before .before .before .before .before .before .before .pre .0 .standing .words-room, c .before .before .before .before .before .before .before .before .before .pre .0 .standing .reals-room, most _ _ _ _ (c .before .before .before .before .before .before .before .before .before .pre .0))

@@ -12,11 +12,11 @@ polygon-count-requires c κs = readable-long _ (checked-readable _ (c .before .p
 vertex-count-requires : tie.Need-vertex-count-requires
 vertex-count-requires c κs = readable-long _ (checked-readable _ (c .before .before .pre))
 
-new-requires : tie.Need-new-requires
-new-requires c κs = let n = readable-counts _ (checked-readable _ (c .before .before .before .pre)) in (omega (arith, n .1, c .before .polygon-count .ensures), omega (arith, n .0, c .vertex-count .ensures))
+lay-requires : tie.Need-lay-requires
+lay-requires c κs = let n = readable-counts _ (checked-readable _ (c .before .before .before .pre)) in (omega (arith, n .1, c .before .polygon-count .ensures), omega (arith, n .0, c .vertex-count .ensures))
 
 returns : tie.Need-returns
-returns c = record { checked = c .before .before .before .before .pre; laid = c .new .ensures .0; polygons = c .new .ensures .1 .0 ∙ c .before .before .polygon-count .ensures; vertices = c .new .ensures .1 .1 ∙ c .before .vertex-count .ensures }
+returns c = (record { checked = c .before .before .before .before .pre; laid = c .lay .ensures .0; polygons = c .lay .ensures .1 .0 ∙ c .before .before .polygon-count .ensures; vertices = c .lay .ensures .1 .1 .0 ∙ c .before .vertex-count .ensures }, c .lay .ensures .1 .1 .1)
 
 pub of-spec : {M : Type 1} → statement M
 of-spec =
@@ -24,5 +24,5 @@ of-spec =
     (tie.spec
     polygon-count-requires
     vertex-count-requires
-    new-requires
+    lay-requires
     returns)
