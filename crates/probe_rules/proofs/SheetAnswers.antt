@@ -1,5 +1,5 @@
 -- The answers of the probe of sheet metal, return by return, and the cells of its summary.
-use mathlib.Core.Path.{_≡_, refl, sym, ap, ap₂, _∙_, subst}
+use mathlib.Core.Path.{_≡_, refl, sym, ap, _∙_, subst}
 use mathlib.Core.Bool.{Bool, true, false, cond}
 use mathlib.Core.List.{List, [], _∷_}
 use Prim.Native.Nat.{ℕ, _+_, _≤_, _<_}
@@ -150,10 +150,10 @@ module _ (s words : List ℕ) (reals : List Float) where
                 };
           }
 
-      pub sheet-found : (n ≡ 0 → ⊥) → (words2 : List ℕ) (reals2 : List Float) (cells cells′ : List ℕ) (numbers numbers′ : List Float) (x : Found) →
+      pub sheet-found : at .segments ≡ true → at .bodies ≡ false → (n ≡ 0 → ⊥) → (words2 : List ℕ) (reals2 : List Float) (cells cells′ : List ℕ) (numbers numbers′ : List Float) (x : Found) →
           SheetPut s at words1 words2 reals1 reals2 cells cells′ numbers numbers′ x → SummaryPut (x .summary) summary summary′ →
           SheetAnswer s words words2 reals reals2 cells cells′ numbers numbers′ summary summary′ (1000 + x .faults)
-      sheet-found full words2 reals2 cells cells′ numbers numbers′ x sheet put =
+      sheet-found with without full words2 reals2 cells cells′ numbers numbers′ x sheet put =
           record {
             no-room = λ short. absurd (omega (arith, room, short));
             refused = λ _ other. absurd (other (sym e ∙ z));
@@ -162,7 +162,7 @@ module _ (s words : List ℕ) (reals : List Float) where
                   answer = ap (λ (k : ℕ). 1000 + k) count;
                   put = subst (λ (k : ℕ). FaultsPut (faultOf (partOf s)) (GoodRow (partOf s)) 0 (sheetFaults (partOf s)) cells cells′ numbers numbers′ k) count faults;
                   summary-put = subst (λ (y : Summary). SummaryPut y summary summary′) (sheet .summary ∙ some-found (partOf s) some) put;
-                  marks = λ f m u _. subst (λ (a : Regions). OffFaces (partOf s) a words2) (only-regions at laid ∙ ap₂ regionsOf (placed .polygons) (placed .vertices)) (sheet .marks f m u);
+                  marks = λ f m u _. subst (λ (a : Regions). OffFaces (partOf s) a words2) regions (sheet .marks f m u);
                   words-kept =
                       outside-then 0 _ _ words words1 words2 body-words (outside-wide 0 _ _ _ _ words1 words2 (omega arith) (omega (arith, laid, counts)) (sheet .words-kept));
                   reals-kept =
@@ -170,6 +170,9 @@ module _ (s words : List ℕ) (reals : List Float) where
                 };
           }
         where
+          regions : at ≡ regionsOf (polygonCount s) (vertexCount s) true false
+          regions = only-regions at laid ∙ rw (placed .polygons, placed .vertices, with, without) refl
+
           some : facesOf (partOf s) ≡ 0 → ⊥
           some none = full (is ∙ none)
 

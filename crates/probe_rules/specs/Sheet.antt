@@ -1,6 +1,6 @@
 -- What the probe of sheet metal leaves. Definitions only.
 use mathlib.Core.Path.{_≡_}
-use mathlib.Core.Bool.{Bool, true, cond}
+use mathlib.Core.Bool.{Bool, true, false, cond}
 use mathlib.Core.List.{List, []}
 use Prim.Native.Nat.{ℕ, _+_, _≤_, _<_}
 use lib.IntN.{pos}
@@ -52,7 +52,7 @@ pub record Found (s words words′ : List ℕ) (reals reals′ : List Float) (ce
   pub put : FaultsPut (faultOf (partOf s)) (GoodRow (partOf s)) 0 (sheetFaults (partOf s)) cells cells′ numbers numbers′ (length (sheetFaults (partOf s)))
   pub summary-put : SummaryPut (sheetFound (partOf s)) summary summary′
   pub marks : isFormed (partOf s .job) ≡ true → isMeasured (partOf s) ≡ true → isUneven (partOf s) ≡ true → 0 < facesOf (partOf s) →
-      OffFaces (partOf s) (regionsOf (polygonCount s) (vertexCount s)) words′
+      OffFaces (partOf s) (regionsOf (polygonCount s) (vertexCount s) true false) words′
   pub words-kept : Outside 0 0 (wordsNeeded (polygonCount s) (vertexCount s)) words words′
   pub reals-kept : Outside nan 0 (realsNeeded (polygonCount s) (vertexCount s)) reals reals′
 

@@ -8,6 +8,7 @@ use rule_sheet::sheet::sheet_metal;
 use scratch::body::put_body;
 use scratch::refusal::body_refusal;
 use scratch::regions::Regions;
+use scratch::regions::Stages;
 
 // 1 for true, 0 for false.
 fn flag(b: bool) -> f64
@@ -47,7 +48,13 @@ pub extern "C" fn gablemadder_sheet_metal(
     if refusal != 0 {
         return refusal;
     }
-    let at = Regions::of(file);
+    let at = Regions::of(
+        file,
+        Stages {
+            segments: true,
+            bodies: false,
+        },
+    );
     let n = put_body(file, words, reals, at);
     if n == 0 {
         put_summary(Summary::none(), summary);
