@@ -11,3 +11,7 @@ noSummary = record { «has_thickness» = false; thickness = ofBits binary64 0; b
 -- of a sheet
 unfoldable pub sheetSummary : Float → ℕ → Summary
 sheetSummary thickness bends = record { «has_thickness» = true; thickness = thickness; bends = bends; «has_height» = false; height = ofBits binary64 0 }
+
+-- of a print
+unfoldable pub printSummary : Float → Summary
+printSummary height = record { «has_thickness» = false; thickness = ofBits binary64 0; bends = 0; «has_height» = true; height = height }

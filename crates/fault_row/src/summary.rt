@@ -1,6 +1,6 @@
 // What is found of a part beside its faults: what the first line of a report says.
 ghost use mathlib.Core.Path.{_≡_};
-ghost use Rattle.fault_row.specs.Summary.{noSummary, sheetSummary};
+ghost use Rattle.fault_row.specs.Summary.{noSummary, sheetSummary, printSummary};
 
 // The thickness of a sheet and its bends, and the height of a print, each with whether there is one.
 pub struct Summary {
@@ -35,6 +35,19 @@ impl Summary {
             bends: bends,
             has_height: false,
             height: 0.0,
+        }
+    }
+
+    // A print.
+    pub fn print(height: f64) -> Summary
+        ensures { λ r. ⌜ r ≡ printSummary height ⌝ }
+    {
+        Summary {
+            has_thickness: false,
+            thickness: 0.0,
+            bends: 0,
+            has_height: true,
+            height: height,
         }
     }
 }

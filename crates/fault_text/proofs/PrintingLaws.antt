@@ -11,8 +11,8 @@ use Rattle.fault_row.specs.Names.{severityRank, severityOf}
 use Rattle.fault_row.specs.Row.{row}
 use Rattle.fault_row.proofs.NameLaws.{severity-of}
 use Rattle.fault_text.specs.Kind.{thinnerThanALayer, fewLayers, thinnerThanTheNozzle, printThinWall, printSmallHole, overhang, enclosedHollowSla, enclosedHollowSls, printingRule, ruleOf}
-use Rattle.fault_text.specs.Printing.{twoLayers, limitOf, thinnerThanALayerFault, fewLayersFault, thinnerThanTheNozzleFault, printThinWallFault, printSmallHoleFault, enclosedHollowSlaFault, enclosedHollowSlsFault, printingText, printingPrinted}
-use Rattle.fault_text.specs.Many.{hollowFaces, manyFaces}
+use Rattle.fault_text.specs.Printing.{twoLayers, limitOf, thinnerThanALayerFault, fewLayersFault, thinnerThanTheNozzleFault, printThinWallFault, printSmallHoleFault, overhangFault, enclosedHollowSlaFault, enclosedHollowSlsFault, printingText, printingPrinted}
+use Rattle.fault_text.specs.Many.{overhangFaces, hollowFaces, manyFaces}
 use Rattle.fault_text.specs.Meaning.{textOf, isOfTwo, isOfOne, facesOfRow, faultOf, printedOf}
 
 module _ (t : Part) where
@@ -39,6 +39,10 @@ module _ (t : Part) where
   print-small-hole-row f d = refl
 
   -- its faces follow from the part
+  pub overhang-row : (count : ℕ) (area : Float) → faultOf t (row overhang 1 count 0 0 0 area zero zero) ≡ overhangFault t count (overhangFaces t) area
+  unfolding faultOf severityOf ruleOf printingRule textOf printingText facesOfRow isOfTwo isOfOne manyFaces overhangFault
+  overhang-row count area = refl
+
   -- p is the lowest polygon of the hollow
   pub enclosed-hollow-sla-row : (p : ℕ) (volume : Float) → faultOf t (row enclosedHollowSla 1 1 p 0 0 volume zero zero) ≡ enclosedHollowSlaFault (hollowFaces t p) volume
   unfolding faultOf severityOf ruleOf printingRule textOf printingText facesOfRow isOfTwo isOfOne manyFaces enclosedHollowSlaFault

@@ -10,8 +10,9 @@ use Rattle.solid_ids.specs.Ids.{idOf}
 use Rattle.solid_bodies.specs.Body.{someBelow, bodyOf}
 use Rattle.solid_ranks.specs.Ranks.{faceOfRank}
 use Rattle.sheet_thickness.specs.Thickness.{isOffFace}
+use Rattle.print_overhang.specs.Overhang.{isOverhang}
 use Rattle.fault_row.specs.declared.row.Row.{Row}
-use Rattle.fault_text.specs.Kind.{notOneThickness, enclosedHollowSla, enclosedHollowSls}
+use Rattle.fault_text.specs.Kind.{notOneThickness, overhang, enclosedHollowSla, enclosedHollowSls}
 
 -- dfm.rs's `sort` and `dedup`: the ids of the faces that pass the test, of ranks below n, in rising order
 unfoldable pub idsTo : Part → (ℕ → Bool) → ℕ → List FaceId
@@ -30,9 +31,13 @@ hollowFaces t b = idsTo t (faceOfBody t b) (facesOf t)
 unfoldable pub offFaces : Part → List FaceId
 offFaces t = idsTo t (isOffFace t) (facesOf t)
 
--- of a row: a is the lowest polygon of a hollow. (`overhang` has many faces too: they come with the rule that yields this kind, as a measure of the part
--- that stands below this crate. None for the other kinds.)
+-- the faces that hang over
+unfoldable pub overhangFaces : Part → List FaceId
+overhangFaces t = idsTo t (isOverhang t) (facesOf t)
+
+-- of a row: a is the lowest polygon of a hollow. None for the other kinds
 unfoldable pub manyFaces : Part → Row → List FaceId
 manyFaces t row =
     cond (eqb (row .kind) notOneThickness) (offFaces t)
-    (cond (eqb (row .kind) enclosedHollowSla) (hollowFaces t (row .a)) (cond (eqb (row .kind) enclosedHollowSls) (hollowFaces t (row .a)) []))
+    (cond (eqb (row .kind) overhang) (overhangFaces t)
+    (cond (eqb (row .kind) enclosedHollowSla) (hollowFaces t (row .a)) (cond (eqb (row .kind) enclosedHollowSls) (hollowFaces t (row .a)) [])))

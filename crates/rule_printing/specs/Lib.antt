@@ -1,0 +1,4 @@
+-- The faults of printing.
+pub mod Rules
+pub mod All
+pub mod Work

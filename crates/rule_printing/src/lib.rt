@@ -1,0 +1,5 @@
+// The faults of printing, put as rows.
+pub mod hollows;
+pub mod overhang;
+pub mod printing;
+pub mod small_holes;
