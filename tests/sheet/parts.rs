@@ -1,4 +1,5 @@
-//! Parts to time, each with a name: plates and brackets with holes and bends, of about 200, 800 and 3,200 polygons.
+//! Parts to time, each with a name: plates and brackets with holes and bends, and covers with slots, of about 200, 800 and 3,200 polygons. A slot has
+//! eight faces where a hole has one, so that a cover has the most edges between faces.
 use crate::file;
 use crate::job::{Job, Material, SHEET};
 use crate::part::Part;
@@ -15,6 +16,7 @@ struct Plan {
     bends: usize,
     cells: usize,
     holes: usize,
+    slots: bool,
 }
 
 impl Plan {
@@ -32,6 +34,9 @@ impl Plan {
                 return Cell::Plain;
             }
             left -= 1;
+            if self.slots {
+                return Cell::Through(Ring::rounded([3.0, 4.0, 9.0, 8.0], 0.8, 2));
+            }
             let (x, radius) = [(6.0, 0.9), (4.0, 1.5), (6.0, 2.0)][left % 3];
             Cell::Through(Ring::circle((x, 6.0), radius, 32))
         });
@@ -42,12 +47,15 @@ impl Plan {
 
 pub fn all() -> Vec<(String, Vec<u8>)> {
     let plans = [
-        Plan { name: "a plate with 4 holes", bends: 0, cells: 4, holes: 4 },
-        Plan { name: "a bracket of 2 bends with 3 holes", bends: 2, cells: 3, holes: 3 },
-        Plan { name: "a plate with 16 holes", bends: 0, cells: 16, holes: 16 },
-        Plan { name: "a bracket of 4 bends with 10 holes", bends: 4, cells: 6, holes: 10 },
-        Plan { name: "a plate with 64 holes", bends: 0, cells: 64, holes: 64 },
-        Plan { name: "a bracket of 6 bends with 40 holes", bends: 6, cells: 20, holes: 40 },
+        Plan { name: "a plate with 4 holes", bends: 0, cells: 4, holes: 4, slots: false },
+        Plan { name: "a bracket of 2 bends with 3 holes", bends: 2, cells: 3, holes: 3, slots: false },
+        Plan { name: "a plate with 16 holes", bends: 0, cells: 16, holes: 16, slots: false },
+        Plan { name: "a bracket of 4 bends with 10 holes", bends: 4, cells: 6, holes: 10, slots: false },
+        Plan { name: "a plate with 64 holes", bends: 0, cells: 64, holes: 64, slots: false },
+        Plan { name: "a bracket of 6 bends with 40 holes", bends: 6, cells: 20, holes: 40, slots: false },
+        Plan { name: "a cover of 1 bend with 5 slots", bends: 1, cells: 5, holes: 5, slots: true },
+        Plan { name: "a cover of 2 bends with 20 slots", bends: 2, cells: 10, holes: 20, slots: true },
+        Plan { name: "a cover of 2 bends with 82 slots", bends: 2, cells: 41, holes: 82, slots: true },
     ];
     plans.iter().map(Plan::file).collect()
 }
