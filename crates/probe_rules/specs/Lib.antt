@@ -1,4 +1,5 @@
--- The faults of machining and of sheet metal, and the text of a row.
+-- The faults of machining, sheet metal and printing, and the text of a row.
 pub mod Machining
 pub mod Sheet
+pub mod Printing
 pub mod Message

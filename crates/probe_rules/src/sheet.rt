@@ -11,7 +11,7 @@ use scratch::regions::Regions;
 use scratch::regions::Stages;
 
 // 1 for true, 0 for false.
-fn flag(b: bool) -> f64
+pub(crate) fn flag(b: bool) -> f64
     ensures { λ r. ⌜ r ≡ flagOf b ⌝ }
 {
     if b { 1.0 } else { 0.0 }
