@@ -1,0 +1,20 @@
+-- How the cells of a fault are made. A reader may pass over it.
+use mathlib.Core.Path.{_≡_}
+use mathlib.Core.List.{List}
+use mathlib.Core.Logic.{_⊎_}
+use Prim.Native.Nat.{ℕ, _+_, _*_, _≤_, _<_}
+use lib.ListN.{length, getD}
+
+pub record Opened (old : List ℕ) (i hash lead : ℕ) (new : List ℕ) : Type 0 where
+  pub hash-is : getD new (4 * i) 0 ≡ hash
+  pub lead-is : getD new (4 * i + 1) 0 ≡ lead
+  pub total-is : getD new (4 * i + 2) 0 ≡ 0
+  pub members-is : getD new (4 * i + 3) 0 ≡ 0
+  pub others : (k : ℕ) → (k < 4 * i) ⊎ (4 * i + 4 ≤ k) → getD new k 0 ≡ getD old k 0
+  pub long : length new ≡ length old
+
+pub record Added (old : List ℕ) (lead count : ℕ) (new : List ℕ) : Type 0 where
+  pub total-is : getD new (4 * lead + 2) 0 ≡ getD old (4 * lead + 2) 0 + count
+  pub members-is : getD new (4 * lead + 3) 0 ≡ getD old (4 * lead + 3) 0 + 1
+  pub others : (k : ℕ) → (k < 4 * lead + 2) ⊎ (4 * lead + 4 ≤ k) → getD new k 0 ≡ getD old k 0
+  pub long : length new ≡ length old

@@ -1,0 +1,128 @@
+// Which faults share a line. The work slice has four cells for each fault: a hash of its text and the lowest fault of its line, and at that fault the
+// line's count and how many faults it has.
+ghost use mathlib.Core.Path.{_≡_};
+ghost use mathlib.Core.Bool.{cond};
+ghost use Prim.Native.Nat.{_+_, _*_, _≤_, _<_};
+ghost use lib.Dec.{eqb};
+ghost use lib.ListN.{length, getD};
+ghost use Rattle.fault_lines.specs.Line.{sameHeading};
+ghost use Rattle.file_part.specs.Part.{partOf};
+ghost use Rattle.fault_merge.specs.Hash.{hashOf};
+ghost use Rattle.fault_merge.specs.Rows.{headingAt, Rows};
+ghost use Rattle.fault_merge.specs.Merged.{leadIn, Hashes, Merged, leaders};
+ghost use Rattle.fault_merge.specs.Work.{Opened, Added};
+use crate::same::same_heading;
+use crate::same::text_hash;
+use fault_row::row::row_at;
+use list_cells::cell;
+
+// Whether faults j and i share a line. Texts are compared only where their hashes agree.
+fn is_same(
+    work: &[u32],
+    file: &[u8],
+    cells: &[u32],
+    numbers: &[f64],
+    j: usize,
+    i: usize,
+    hash: u32,
+) -> bool
+    requires { ⌜ Rows (now file) (now cells) (now numbers) (i + 1) ⌝ ∗ ⌜ j < i ⌝ ∗ ⌜ 4 * i + 4 ≤ length (now work) ⌝ }
+    requires { ⌜ Hashes (partOf (now file)) (now cells) (now numbers) (now work) i ⌝ ∗ ⌜ hash ≡ hashOf (headingAt (partOf (now file)) (now cells) (now numbers) i .text) ⌝ }
+    ensures { λ r. ⌜ r ≡ sameHeading (headingAt (partOf (now (file .entry))) (now (cells .entry)) (now (numbers .entry)) j) (headingAt (partOf (now (file .entry))) (now (cells .entry)) (now (numbers .entry)) i) ⌝ }
+{
+    if work[4 * j] != hash {
+        return false;
+    }
+    same_heading(file, row_at(cells, numbers, j), row_at(cells, numbers, i))
+}
+
+// The lowest fault on the line of fault i.
+fn lead_of(work: &[u32], file: &[u8], cells: &[u32], numbers: &[f64], i: usize, hash: u32) -> usize
+    requires { ⌜ Rows (now file) (now cells) (now numbers) (i + 1) ⌝ ∗ ⌜ 4 * i + 4 ≤ length (now work) ⌝ }
+    requires { ⌜ Hashes (partOf (now file)) (now cells) (now numbers) (now work) i ⌝ ∗ ⌜ hash ≡ hashOf (headingAt (partOf (now file)) (now cells) (now numbers) i .text) ⌝ }
+    ensures { λ r. ⌜ r ≡ leadIn (partOf (now (file .entry))) (now (cells .entry)) (now (numbers .entry)) i ⌝ }
+{
+    let mut j: usize = 0;
+    while j < i {
+        if is_same(work, file, cells, numbers, j, i, hash) {
+            return j;
+        }
+        j += 1;
+    }
+    i
+}
+
+// The cells of fault i: no count yet.
+fn put_cells(work: &mut [u32], i: usize, hash: u32, lead: u32)
+    requires { ⌜ 4 * i + 4 ≤ length (now work) ⌝ }
+    ensures { λ r. ⌜ Opened (now (work .entry)) i hash lead (now (work .exit)) ⌝ }
+{
+    let at = 4 * i;
+    work[at] = hash;
+    work[at + 1] = lead;
+    work[at + 2] = 0;
+    work[at + 3] = 0;
+}
+
+// One fault more at the line that `lead` begins.
+fn add(work: &mut [u32], lead: usize, count: u32)
+    requires { ⌜ 4 * lead + 4 ≤ length (now work) ⌝ ∗ ⌜ getD (now work) (4 * lead + 2) 0 + count < 4294967296 ⌝ ∗ ⌜ getD (now work) (4 * lead + 3) 0 < 4096 ⌝ }
+    ensures { λ r. ⌜ Added (now (work .entry)) lead count (now (work .exit)) ⌝ }
+{
+    let at = 4 * lead;
+    let total = work[at + 2] + count;
+    let faults = work[at + 3] + 1;
+    work[at + 2] = total;
+    work[at + 3] = faults;
+}
+
+// Fault i joins its line.
+fn join(work: &mut [u32], file: &[u8], cells: &[u32], numbers: &[f64], i: usize)
+    requires { ⌜ Rows (now file) (now cells) (now numbers) (i + 1) ⌝ ∗ ⌜ 4 * i + 4 ≤ length (now work) ⌝ }
+    requires { ⌜ Merged (partOf (now file)) (now cells) (now numbers) (now work) i ⌝ }
+    ensures { λ r. ⌜ Merged (partOf (now (file .entry))) (now (cells .entry)) (now (numbers .entry)) (now (work .exit)) (i + 1) ⌝ ∗ ⌜ length (now (work .exit)) ≡ length (now (work .entry)) ⌝ }
+{
+    let row = row_at(cells, numbers, i);
+    let count = row.count;
+    let hash = text_hash(file, row);
+    let lead = lead_of(work, file, cells, numbers, i, hash);
+    put_cells(work, i, hash, lead as u32);
+    add(work, lead, count);
+}
+
+// The lines of n faults.
+pub fn merge(work: &mut [u32], file: &[u8], cells: &[u32], numbers: &[f64], n: usize)
+    requires { ⌜ Rows (now file) (now cells) (now numbers) n ⌝ ∗ ⌜ 4 * n ≤ length (now work) ⌝ }
+    ensures { λ r. ⌜ Merged (partOf (now (file .entry))) (now (cells .entry)) (now (numbers .entry)) (now (work .exit)) n ⌝ ∗ ⌜ length (now (work .exit)) ≡ length (now (work .entry)) ⌝ }
+{
+    let mut i: usize = 0;
+    while i < n {
+        join(work, file, cells, numbers, i);
+        i += 1;
+    }
+}
+
+// 1 if fault i begins a line.
+fn begins(work: &[u32], i: usize) -> usize
+    requires { ⌜ 4 * i + 4 ≤ length (now work) ⌝ }
+    ensures { λ r. ⌜ r ≡ cond (eqb (getD (now (work .entry)) (4 * i + 1) 0) i) 1 0 ⌝ }
+{
+    if cell(work, 4 * i + 1) == i {
+        return 1;
+    }
+    0
+}
+
+// How many faults below n begin a line.
+pub fn line_count(work: &[u32], n: usize) -> usize
+    requires { ⌜ 4 * n ≤ length (now work) ⌝ ∗ ⌜ n ≤ 2048 ⌝ }
+    ensures { λ r. ⌜ r ≡ leaders (now (work .entry)) n ⌝ }
+{
+    let mut k: usize = 0;
+    let mut i: usize = 0;
+    while i < n {
+        k += begins(work, i);
+        i += 1;
+    }
+    k
+}
