@@ -1,0 +1,5 @@
+-- The faces of a line, and their text.
+pub mod Text
+pub mod Marks
+pub mod Named
+pub mod Ready
