@@ -12,7 +12,7 @@ ghost use Rattle.report_faces.specs.Text.{facesText};
 ghost use Rattle.report_faces.specs.Ready.{Ready};
 use crate::ids::put_marked;
 use crate::ids::put_own;
-pub use crate::marks::Listing;
+use crate::marks::Listing;
 use crate::marks::is_many;
 use crate::marks::mark_line;
 use fault_row::row::row_at;

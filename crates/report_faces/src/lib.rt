@@ -1,4 +1,4 @@
 // The faces of a line: its only fault's as they are, or those of all its faults in the order of their ids.
 pub mod faces;
 mod ids;
-mod marks;
+pub mod marks;

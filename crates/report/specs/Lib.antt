@@ -1,0 +1,3 @@
+-- The printed report, and what the function that writes it leaves.
+pub mod Text
+pub mod Report

@@ -1,0 +1,18 @@
+-- What writing a text into the report's buffer leaves. Definitions only.
+use mathlib.Core.Path.{_≡_}
+use mathlib.Core.Bool.{Bool, cond}
+use mathlib.Core.List.{List, _++_}
+use Prim.Native.Nat.{ℕ}
+use lib.Dec.{leb}
+use lib.ListN.{length, drop}
+use Rattle.report.specs.declared.report.Written.{Written}
+use Rattle.report.specs.declared.report.Written.the-variants.{Bytes, TooLong}
+
+-- 12: "report longer than its buffer" fails
+unfoldable pub fits : List ℕ → List ℕ → Bool
+fits text report = leb (length text) (length report)
+
+-- "An accepted report .. fills the first bytes of its buffer and changes none after them"; 12 leaves "the report buffer unchanged"
+pub record Reported (text report report′ : List ℕ) (r : Written) : Type 0 where
+  pub answer : r ≡ cond (fits text report) (Bytes (length text)) TooLong
+  pub buffer : report′ ≡ cond (fits text report) (text ++ drop (length text) report) report

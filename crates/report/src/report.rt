@@ -1,0 +1,86 @@
+// The whole report.
+ghost use mathlib.Core.Path.{_≡_};
+ghost use Prim.Native.Nat.{_<_};
+ghost use lib.ListN.{length};
+ghost use Rattle.num_text.specs.Put.{Put};
+ghost use Rattle.file_part.specs.Part.{partOf};
+ghost use Rattle.fault_lines.specs.Lines.{linesOf};
+ghost use Rattle.fault_merge.specs.Rows.{faultsTo};
+ghost use Rattle.report_faces.specs.Ready.{Kept, Ready};
+ghost use Rattle.report.specs.Text.{reportText};
+ghost use Rattle.report.specs.Report.{Reported};
+use crate::head::put_head;
+use crate::line::put_lines;
+use fault_merge::merge::line_count;
+use fault_merge::merge::merge;
+use fault_row::summary::Summary;
+use report_faces::marks::Listing;
+
+// How a report ends: written with so many bytes, or not at all.
+pub enum Written {
+    Bytes(usize),
+    TooLong,
+}
+
+// The report of faults whose lines are known, from the start of `out` on.
+fn put_report(
+    out: &mut [u8],
+    file: &[u8],
+    words: &[u32],
+    given: Listing,
+    work: &[u32],
+    cells: &[u32],
+    numbers: &[f64],
+    summary: Summary,
+) -> usize
+    requires { ⌜ Ready (now file) (now words) given (now work) (now cells) (now numbers) ⌝ }
+    ensures { λ r. ⌜ Put (now (out .entry)) 0 (reportText summary (linesOf (faultsTo (partOf (now (file .entry))) (now (cells .entry)) (now (numbers .entry)) (given .faults)))) (now (out .exit)) r ⌝ }
+{
+    let mut marks = [0u32; 1024];
+    let findings = line_count(work, given.faults);
+    let at = put_head(out, 0, findings, summary);
+    put_lines(
+        out,
+        at,
+        &mut marks,
+        file,
+        words,
+        given,
+        work,
+        cells,
+        numbers,
+    )
+}
+
+// The report of a part whose faults stand as rows: measured first, and written if it fits.
+pub fn write_report(
+    report: &mut [u8],
+    file: &[u8],
+    words: &[u32],
+    given: Listing,
+    cells: &[u32],
+    numbers: &[f64],
+    summary: Summary,
+) -> Written
+    requires { ⌜ Kept (now file) (now words) given (now cells) (now numbers) ⌝ }
+    ensures { λ r. ⌜ Reported (reportText summary (linesOf (faultsTo (partOf (now (file .entry))) (now (cells .entry)) (now (numbers .entry)) (given .faults)))) (now (report .entry)) (now (report .exit)) r ⌝ }
+{
+    let mut work = [0u32; 8192];
+    merge(&mut work, file, cells, numbers, given.faults);
+    let mut none = [0u8; 0];
+    let length = put_report(
+        &mut none,
+        file,
+        words,
+        given,
+        &work,
+        cells,
+        numbers,
+        summary,
+    );
+    if report.len() < length {
+        return Written::TooLong;
+    }
+    put_report(report, file, words, given, &work, cells, numbers, summary);
+    Written::Bytes(length)
+}
