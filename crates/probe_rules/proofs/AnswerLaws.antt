@@ -3,7 +3,6 @@ use mathlib.Core.Path.{_≡_, refl, sym, ap, _∙_, subst}
 use mathlib.Core.Bool.{true, false}
 use mathlib.Core.List.{List}
 use Prim.Native.Nat.{ℕ, _+_, _≤_, _<_}
-use native.Mathlib.Omega.{arith}
 use lib.Dec.{leb}
 use lib.ListN.{length}
 use lib.Ieee.{Float, nan}
@@ -11,23 +10,20 @@ use borrow.Author.Tests.{eq-eqb, ne-eqb, le-leb, lt-leb}
 use Rattle.num_float.proofs.Tests.{contrary, and-true, and-false-left, and-false-right}
 use Rattle.num_text.specs.Put.{Put}
 use Rattle.list_laws.specs.Region.{Outside}
-use Rattle.list_laws.proofs.Outside.{outside-then, outside-wide}
-use Rattle.file_part.specs.Layout.{vertexCount, polygonCount}
 use Rattle.file_part.specs.Part.{partOf}
 use Rattle.file_ok.specs.declared.verdict.Verdict.{Verdict}
 use Rattle.file_ok.specs.Verdict.{number}
 use Rattle.solid_faces.specs.Faces.{bodyVerdict}
 use Rattle.scratch.specs.declared.regions.Regions.{Regions}
-use Rattle.scratch.specs.Regions.{Laid}
 use Rattle.scratch.specs.Refusal.{bodyRefusal}
 use Rattle.scratch.specs.Standing.{Placed}
 use Rattle.fault_row.specs.declared.row.Row.{Row}
 use Rattle.fault_row.specs.Row.{rowAt}
-use Rattle.fault_row.specs.Faults.{FaultsPut}
-use Rattle.fault_text.specs.Meaning.{textOf, faultOf, GoodRow}
-use Rattle.rule_machining.specs.All.{machining, MachiningPut}
+use Rattle.fault_text.specs.Meaning.{textOf}
+use Rattle.rule_machining.specs.All.{MachiningPut}
 use Rattle.probe_rules.specs.Machining.{MachiningAnswer}
 use Rattle.probe_rules.specs.Message.{asked, MessageAnswer}
+use Rattle.probe_rules.proofs.FoundLaws.{put-count, put-some, rule-words, rule-reals}
 
 -- ---- machining
 module _ (s words : List ℕ) (reals : List Float) (q : ℕ) (e : q ≡ bodyRefusal s (length words) (length reals)) where
@@ -47,25 +43,12 @@ module _ (s words : List ℕ) (reals : List Float) (q : ℕ) (e : q ≡ bodyRefu
           refused = λ other. absurd (other (sym e ∙ z));
           found = λ _.
               record {
-                answer = ap (λ (n : ℕ). 1000 + n) count;
-                put = subst (λ (n : ℕ). FaultsPut (faultOf (partOf s)) (GoodRow (partOf s)) 0 (machining (partOf s)) cells cells′ numbers numbers′ n) count (put .put);
-                words-kept =
-                    outside-then 0 _ _ words words1 words2 (outside-wide 0 _ _ _ _ words words1 (omega arith) (omega (arith, laid, counts)) w)
-                    (outside-wide 0 _ _ _ _ words1 words2 (omega arith) (omega (arith, laid, counts)) (put .words-kept));
-                reals-kept =
-                    outside-then nan _ _ reals reals1 reals2 (outside-wide nan _ _ _ _ reals reals1 (omega arith) (omega (arith, laid, counts)) r)
-                    (outside-wide nan _ _ _ _ reals1 reals2 (omega arith) (omega (arith, laid, counts)) (put .reals-kept));
+                answer = ap (λ (n : ℕ). 1000 + n) (put-count (partOf s) cells cells′ numbers numbers′ _ _ (put .put));
+                put = put-some (partOf s) cells cells′ numbers numbers′ _ _ _ refl (put .put);
+                words-kept = rule-words s at placed words words1 w words2 (put .words-kept);
+                reals-kept = rule-reals s at placed reals reals1 r reals2 (put .reals-kept);
               };
         }
-      where
-        count : k ≡ length (machining (partOf s))
-        count = put .put .count ∙ omega arith
-
-        laid : Laid at
-        laid = placed .laid
-
-        counts : (at .polygons ≡ polygonCount s) × (at .vertices ≡ vertexCount s)
-        counts = (placed .polygons, placed .vertices)
 
 -- ---- the text of a row
 module _ (s cells : List ℕ) (numbers : List Float) where

@@ -7,20 +7,15 @@ use native.Mathlib.Omega.{arith}
 use lib.IntN.{pos}
 use lib.ListN.{length, set}
 use lib.Ieee.{Float, binary64, nan, ofInt}
-use borrow.Author.Tests.{eq-eqb, ne-eqb}
 use Rattle.math.specs.Vector.{zero, one}
 use Rattle.list_laws.specs.Region.{Outside}
-use Rattle.list_laws.proofs.Outside.{outside-then, outside-wide}
 use Rattle.list_laws.proofs.Stores.{stores-length, stores-below, stores-above, stores-at}
-use Rattle.file_part.specs.Layout.{vertexCount, polygonCount}
 use Rattle.file_part.specs.Part.{Part, partOf}
 use Rattle.solid_faces.specs.Faces.{facesOf, Checked}
 use Rattle.solid_faces.proofs.BodyLaws.{checked-faces}
 use Rattle.scratch.specs.declared.regions.Regions.{Regions}
-use Rattle.scratch.specs.Regions.{Laid, wordsNeeded, realsNeeded, regionsOf}
 use Rattle.scratch.specs.Refusal.{bodyRefusal}
 use Rattle.scratch.specs.Standing.{Placed}
-use Rattle.scratch.proofs.RegionLaws.{only-regions}
 use Rattle.sheet_thickness.specs.Thickness.{thicknessOf}
 use Rattle.sheet_thickness.specs.Kept.{OffFaces}
 use Rattle.sheet_bends.specs.Bends.{bendsOf, bendCount}
@@ -28,12 +23,10 @@ use Rattle.sheet_bends.proofs.StepLaws.{count-few}
 use Rattle.fault_row.specs.declared.summary.Summary.{Summary}
 use Rattle.fault_row.specs.declared.summary.Found.{Found}
 use Rattle.fault_row.specs.Fault.{Fault}
-use Rattle.fault_row.specs.Faults.{FaultsPut}
 use Rattle.fault_row.specs.Summary.{noSummary, sheetSummary}
-use Rattle.fault_row.proofs.FaultLaws.{faults-none, faults-same}
-use Rattle.fault_text.specs.Meaning.{faultOf, GoodRow}
 use Rattle.rule_sheet.specs.All.{sheetMetal, isSheet, summaryOf, SheetPut}
 use Rattle.probe_rules.specs.Sheet.{sheetFaults, sheetFound, flagOf, SummaryPut, SheetAnswer}
+use Rattle.probe_rules.proofs.FoundLaws.{by-none, by-some, unchanged, put-none, put-count, put-some, placed-regions, body-words, rule-words, body-reals, rule-reals}
 
 -- ---- the summary's cells
 pub flag-set : (b : Bool) → b ≡ true → one ≡ flagOf b
@@ -83,19 +76,19 @@ found-few s h x e =
 -- ---- with faces and without
 none-faults : (t : Part) → facesOf t ≡ 0 → [] ≡ sheetFaults t
 unfolding sheetFaults
-none-faults t e = rw (eq-eqb (facesOf t) 0 e) refl
+none-faults t e = by-none (facesOf t) [] (sheetMetal t) e
 
 none-found : (t : Part) → facesOf t ≡ 0 → noSummary ≡ sheetFound t
 unfolding sheetFound
-none-found t e = rw (eq-eqb (facesOf t) 0 e) refl
+none-found t e = by-none (facesOf t) noSummary (summaryOf t) e
 
 some-faults : (t : Part) → (facesOf t ≡ 0 → ⊥) → sheetMetal t ≡ sheetFaults t
 unfolding sheetFaults
-some-faults t e = rw (ne-eqb (facesOf t) 0 e) refl
+some-faults t e = by-some (facesOf t) [] (sheetMetal t) e
 
 some-found : (t : Part) → (facesOf t ≡ 0 → ⊥) → summaryOf t ≡ sheetFound t
 unfolding sheetFound
-some-found t e = rw (ne-eqb (facesOf t) 0 e) refl
+some-found t e = by-some (facesOf t) noSummary (summaryOf t) e
 
 -- ---- the answers
 module _ (s words : List ℕ) (reals : List Float) where
@@ -103,7 +96,7 @@ module _ (s words : List ℕ) (reals : List Float) where
       SheetAnswer s words words reals reals cells cells numbers numbers summary summary 0
   sheet-no-room cells numbers summary short =
       record {
-        no-room = λ _. record { answer = refl; words-same = refl; reals-same = refl; cells-same = refl; numbers-same = refl; summary-same = refl };
+        no-room = λ _. unchanged 0 0 words reals cells numbers summary refl;
         refused = λ room _. absurd (omega (arith, room, short));
         found = λ room _. absurd (omega (arith, room, short));
       }
@@ -113,24 +106,12 @@ module _ (s words : List ℕ) (reals : List Float) where
     sheet-refused cells numbers other =
         record {
           no-room = λ short. absurd (omega (arith, room, short));
-          refused = λ _ _. record { answer = e; words-same = refl; reals-same = refl; cells-same = refl; numbers-same = refl; summary-same = refl };
+          refused = λ _ _. unchanged _ q words reals cells numbers summary e;
           found = λ _ z. absurd (other (e ∙ z));
         }
 
     module _ (z : q ≡ 0) (at : Regions) (placed : Placed s at) (words1 : List ℕ) (reals1 : List Float) (w : Outside 0 0 (at .readings) words words1)
         (r : Outside nan 0 (at .falling) reals reals1) (n : ℕ) (is : n ≡ facesOf (partOf s)) (summary′ : List Float) where
-      abbrev laid : Laid at
-      laid = placed .laid
-
-      abbrev counts : (at .polygons ≡ polygonCount s) × (at .vertices ≡ vertexCount s)
-      counts = (placed .polygons, placed .vertices)
-
-      body-words : Outside 0 0 (wordsNeeded (polygonCount s) (vertexCount s)) words words1
-      body-words = outside-wide 0 _ _ _ _ words words1 (omega arith) (omega (arith, laid, counts)) w
-
-      body-reals : Outside nan 0 (realsNeeded (polygonCount s) (vertexCount s)) reals reals1
-      body-reals = outside-wide nan _ _ _ _ reals reals1 (omega arith) (omega (arith, laid, counts)) r
-
       pub sheet-none : n ≡ 0 → (cells : List ℕ) (numbers : List Float) (x : Summary) → x ≡ noSummary → SummaryPut x summary summary′ →
           SheetAnswer s words words1 reals reals1 cells cells numbers numbers summary summary′ 1000
       sheet-none empty cells numbers x ex put =
@@ -142,11 +123,11 @@ module _ (s words : List ℕ) (reals : List Float) where
             found = λ _ _.
                 record {
                   answer = ap (λ (l : List Fault). 1000 + length l) quiet;
-                  put = subst (λ (l : List Fault). FaultsPut (faultOf (partOf s)) (GoodRow (partOf s)) 0 l cells cells numbers numbers (length l)) quiet (faults-none 0 cells numbers);
+                  put = put-none (partOf s) cells cells numbers numbers _ quiet;
                   summary-put = subst (λ (y : Summary). SummaryPut y summary summary′) (ex ∙ none-found (partOf s) none) put;
                   marks = λ _ _ _ some. absurd (omega (arith, some, none));
-                  words-kept = body-words;
-                  reals-kept = body-reals;
+                  words-kept = body-words s at placed words words1 w;
+                  reals-kept = body-reals s at placed reals reals1 r;
                 };
           }
 
@@ -159,25 +140,14 @@ module _ (s words : List ℕ) (reals : List Float) where
             refused = λ _ other. absurd (other (sym e ∙ z));
             found = λ _ _.
                 record {
-                  answer = ap (λ (k : ℕ). 1000 + k) count;
-                  put = subst (λ (k : ℕ). FaultsPut (faultOf (partOf s)) (GoodRow (partOf s)) 0 (sheetFaults (partOf s)) cells cells′ numbers numbers′ k) count faults;
+                  answer = ap (λ (k : ℕ). 1000 + k) (put-count (partOf s) cells cells′ numbers numbers′ _ _ (sheet .put) ∙ ap length (some-faults (partOf s) some));
+                  put = put-some (partOf s) cells cells′ numbers numbers′ _ _ _ (some-faults (partOf s) some) (sheet .put);
                   summary-put = subst (λ (y : Summary). SummaryPut y summary summary′) (sheet .summary ∙ some-found (partOf s) some) put;
-                  marks = λ f m u _. subst (λ (a : Regions). OffFaces (partOf s) a words2) regions (sheet .marks f m u);
-                  words-kept =
-                      outside-then 0 _ _ words words1 words2 body-words (outside-wide 0 _ _ _ _ words1 words2 (omega arith) (omega (arith, laid, counts)) (sheet .words-kept));
-                  reals-kept =
-                      outside-then nan _ _ reals reals1 reals2 body-reals (outside-wide nan _ _ _ _ reals1 reals2 (omega arith) (omega (arith, laid, counts)) (sheet .reals-kept));
+                  marks = λ f m u _. subst (λ (a : Regions). OffFaces (partOf s) a words2) (placed-regions s at placed _ _ with without) (sheet .marks f m u);
+                  words-kept = rule-words s at placed words words1 w words2 (sheet .words-kept);
+                  reals-kept = rule-reals s at placed reals reals1 r reals2 (sheet .reals-kept);
                 };
           }
         where
-          regions : at ≡ regionsOf (polygonCount s) (vertexCount s) true false
-          regions = only-regions at laid ∙ rw (placed .polygons, placed .vertices, with, without) refl
-
           some : facesOf (partOf s) ≡ 0 → ⊥
           some none = full (is ∙ none)
-
-          faults : FaultsPut (faultOf (partOf s)) (GoodRow (partOf s)) 0 (sheetFaults (partOf s)) cells cells′ numbers numbers′ (x .faults)
-          faults = faults-same (some-faults (partOf s) some) (sheet .put)
-
-          count : x .faults ≡ length (sheetFaults (partOf s))
-          count = faults .count ∙ omega arith
