@@ -36,7 +36,7 @@ fn answer_of(written: Written) -> Answer
 }
 
 // Checks a part that none of 1 to 10 turns back. Scratch and rows hold what they may.
-fn answer(
+fn check_part(
     file: &[u8],
     words: &mut [u32],
     reals: &mut [f64],
@@ -81,7 +81,7 @@ pub fn check(
     if refusal != 0 {
         return Answer::Refused { number: refusal };
     }
-    let out = answer(file, words, reals, cells, numbers, report);
+    let out = check_part(file, words, reals, cells, numbers, report);
     fill_words(words, 0);
     fill_reals(reals, 0.0);
     fill_words(cells, 0);
