@@ -1,2 +1,3 @@
 -- What the functions mean that are more than a call of another crate's.
 pub mod Decimal
+pub mod Check

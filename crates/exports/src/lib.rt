@@ -1,3 +1,4 @@
 // What Rust and C call: the product. No function has a condition: whatever is passed, the contract says what comes back.
+mod checks;
 mod roots;
 mod texts;

@@ -8,42 +8,6 @@ const LONGEST: usize = 721_120;
 
 const LONGEST_PACKED: usize = 131_072;
 
-// So many zeros from the position `at` on. The position after them.
-fn put_zeros(out: &mut [u8], at: usize, count: u8) -> usize {
-    let mut next = at;
-    let mut left = count;
-    while 0 < left {
-        next = num_text::put::put_byte(out, next, 0);
-        left -= 1;
-    }
-    next
-}
-
-// A byte of a packed file: after a zero it says how many zeros there are.
-fn put_packed(out: &mut [u8], at: usize, b: u8, after_zero: bool) -> usize {
-    if after_zero {
-        return put_zeros(out, at, b);
-    }
-    if b == 0 {
-        return at;
-    }
-    num_text::put::put_byte(out, at, b)
-}
-
-// The file that was packed, in the first bytes of `file`. Its length, which is more than that of `file` where it does not fit.
-fn unpack(file: &mut [u8], packed: &[u8]) -> usize {
-    let mut end: usize = 0;
-    let mut after_zero = false;
-    let mut i: usize = 0;
-    while i < packed.len() {
-        let b = packed[i];
-        end = put_packed(file, end, b, after_zero);
-        after_zero = !after_zero & (b == 0);
-        i += 1;
-    }
-    end
-}
-
 // The number of the file in the first bytes of `room`.
 fn print_number(room: &[u8], length: usize) {
     if length <= room.len() {
@@ -63,7 +27,7 @@ fn replay(file: &mut [u8], packed: &mut [u8], n: usize) -> bool {
     if io::read_full(STDIN_FILENO, &mut packed[..n]) < n {
         return false;
     }
-    let length = unpack(file, &packed[..n]);
+    let length = replay_packed::unpack(file, &packed[..n]);
     print_number(file, length);
     true
 }

@@ -1,10 +1,10 @@
--- `replay_verdicts::unpack` is safe and ends.
+-- `replay_packed::unpack` is safe and ends.
 use mathlib.Core.Path.{_≡_}
 use Prim.Native.Nat.{_-_, _≤_}
 use lib.ListN.{length}
 use borrow.Author.Needs.{needs}
-use Rattle.replay_verdicts.proofs.unpack.Statement.{statement}
-use Rattle.replay_verdicts.proofs.unpack.Tie as tie
+use Rattle.replay_packed.proofs.unpack.Statement.{statement}
+use Rattle.replay_packed.proofs.unpack.Tie as tie
 
 abbrev Inv-loop : tie.InvT-loop
 Inv-loop file₀ packed end₀ after-zero₀ i₀ file end after-zero i = (i ≤ length packed) × (length file ≡ length file₀)

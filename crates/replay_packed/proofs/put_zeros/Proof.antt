@@ -1,10 +1,10 @@
--- `replay_verdicts::put_zeros` is safe and ends: the measure is how many zeros are left.
+-- `replay_packed::put_zeros` is safe and ends: the measure is how many zeros are left.
 use mathlib.Core.Path.{_≡_}
 use Prim.Native.Nat.{_≤_}
 use lib.ListN.{length}
 use borrow.Author.Needs.{needs}
-use Rattle.replay_verdicts.proofs.put_zeros.Statement.{statement}
-use Rattle.replay_verdicts.proofs.put_zeros.Tie as tie
+use Rattle.replay_packed.proofs.put_zeros.Statement.{statement}
+use Rattle.replay_packed.proofs.put_zeros.Tie as tie
 
 abbrev Inv-loop : tie.InvT-loop
 Inv-loop out₀ at count next₀ left₀ out next left = (left ≤ 255) × (length out ≡ length out₀)

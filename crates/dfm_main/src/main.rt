@@ -1,0 +1,50 @@
+// Checks the part file on standard input: prints its report, `refused` with a blank and the number, or `too long` for more than 16,384 bytes.
+use dfm::check::check;
+use dfm_print::print_answer;
+use libc::STDIN_FILENO;
+use libc::STDOUT_FILENO;
+
+// The longest file.
+const LONGEST: usize = 16_384;
+
+// One byte more than that shows that a file is longer.
+const READ: usize = 16_385;
+
+// Scratch for any such file: 8P + 8V + 1,024 and 16P + 8V + 2,048 are the most with vertices alone.
+const WORDS: usize = 6_432;
+
+const REALS: usize = 7_456;
+
+// 512 fault rows of six cells and three numbers.
+const CELLS: usize = 3_072;
+
+const NUMBERS: usize = 1_536;
+
+const REPORT: usize = 65_536;
+
+fn check_file(file: &[u8]) {
+    let mut words = [0u32; WORDS];
+    let mut reals = [0.0f64; REALS];
+    let mut cells = [0u32; CELLS];
+    let mut numbers = [0.0f64; NUMBERS];
+    let mut report = [0u8; REPORT];
+    let answer = check(
+        file,
+        &mut words,
+        &mut reals,
+        &mut cells,
+        &mut numbers,
+        &mut report,
+    );
+    print_answer(answer, &report);
+}
+
+fn main() {
+    let mut file = [0u8; READ];
+    let n = io::read_full(STDIN_FILENO, &mut file);
+    if LONGEST < n {
+        io::write_all(STDOUT_FILENO, b"too long\n");
+        return;
+    }
+    check_file(&file[..n]);
+}
