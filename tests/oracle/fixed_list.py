@@ -1,14 +1,13 @@
 #!/usr/bin/env python3
-"""The fixed list of the patched oracle's answers, for a program of the gate to replay.
+"""The fixed list of the patched oracle's answers, which the program replay_check of the gate replays.
 
 usage: tests/oracle/fixed_list.py make | check
 
-list/stdin holds the part files, each at most 16,384 bytes, as the program reads them: a u32 (little-endian), the length of what follows,
-then the file with each run of zero bytes as a zero and the run's length (1 to 255). list/stdout holds the answers one after the other,
-each a report or a refusal's line. `make` writes both again, byte by byte the same; `check` compares.
-The files are document 01's examples, the readings at the edge, and of the generator's files, smallest first, as many as it takes for each
-rule and severity, merged line, refusal, process and shape to stand in several. Refusal 9 takes a longer file, and 10 to 12 depend on
-what is lent: tests/oracle/examples.py has those.
+crates/replay_check/stdin holds the part files as the program reads them: five u32 (little-endian), the length of what follows and how many u32 and
+f64 of scratch, fault rows and report bytes are lent; then the file with each run of zero bytes as a zero and the run's length (1 to 255). Its stdout
+holds the answers one after the other, each a report or a refusal's line. `make` writes both again, byte by byte the same; `check` compares.
+The files are document 01's examples, every row of its table of refusals among them, the readings at the edge, and of the generator's files, smallest
+first, as many as it takes for each rule and severity, merged line, refusal, process and shape to stand in several.
 """
 import collections
 import math
@@ -23,12 +22,15 @@ from differences import OUT, frames, framed, run
 from parts import FDM, SHEET, SLA, SLS, bore, box, holed_plate, job, part
 
 HERE = os.path.dirname(os.path.abspath(__file__))
-FOLDER = os.path.join(HERE, "list")
-LONGEST = 16384
+CRATES = os.path.join(HERE, "..", "..", "crates")
+# no file is longer, but that of 1,025 faces, which nothing is lent for
+LONGEST, LONGEST_OF_ALL = 16384, 155944
+# what the program lends, in the order of its numbers
+LENT = {"--words": 6432, "--reals": 7456, "--rows": 512, "--report": 65536}
 FROM_GENERATOR, SEED = 15000, 20
 QUOTA = 4
-# 25 texts of rules by severity, 14 rules that merge, refusals 1 to 8
-KNOWN = 47
+# 25 texts of rules by severity, 14 rules that merge, refusals 1 to 12
+KNOWN = 51
 # what tells apart the texts of one rule
 KINDS = ["to machine", "to print", "micro drills", "punch poorly", "undersized", "gun drilling", "standard drills", "from an edge", "from a bend", "powder", "resin"]
 
@@ -85,6 +87,21 @@ def features(answer, shape):
     return found - {""}
 
 
+def lent_by(options):
+    """What is lent, by options of the oracle."""
+    lent = dict(LENT)
+    lent.update(zip(options[::2], map(int, options[1::2])))
+    return [lent[name] for name in LENT]
+
+
+def lending():
+    """Examples that turn on what is lent, or on one face too many: each file with what is lent for it."""
+    for _, data, options, want in examples.cases():
+        if options or want == 9:
+            assert len(data) <= LONGEST_OF_ALL
+            yield data, lent_by(options)
+
+
 def chosen():
     files = []
     for _, data, options, _ in examples.cases():
@@ -109,26 +126,42 @@ def packed(data):
     return re.sub(rb"\0{1,255}", lambda run: bytes([0, len(run.group())]), data)
 
 
+def answered(data, lent):
+    """The oracle's answer where so much is lent."""
+    options = [word for name, count in zip(LENT, lent) for word in (name, str(count))]
+    return subprocess.run([os.path.join(OUT, "patched")] + options, input=data, capture_output=True, check=True).stdout
+
+
+def head(data, lent):
+    return struct.pack("<5I", len(data), *lent) + data
+
+
 def main():
-    files = chosen()
-    answers = run("patched", framed(files))
-    written = {"stdin": framed([packed(f) for f in files]), "stdout": b"".join(answers)}
+    files = [(data, lent_by([])) for data in chosen()] + list(lending())
+    answers = [answered(data, lent) for data, lent in files]
+    written = {
+        "replay_check/stdin": b"".join(head(packed(data), lent) for data, lent in files),
+        "replay_check/stdout": b"".join(answers),
+        # the program's own: document 01's plate
+        "dfm_main/stdin": files[0][0],
+        "dfm_main/stdout": answers[0],
+    }
     if sys.argv[1:] == ["make"]:
-        os.makedirs(FOLDER, exist_ok=True)
         for name, data in written.items():
-            open(os.path.join(FOLDER, name), "wb").write(data)
+            open(os.path.join(CRATES, name), "wb").write(data)
     elif sys.argv[1:] != ["check"]:
         sys.exit(__doc__)
     count = collections.Counter()
     for answer in answers:
         count.update(f for f in features(answer, "") if f.split()[0] in ("Error", "Warning", "Note", "merged", "refused"))
-    least = min(count.values())
+    # an example each is all there is of 9
+    least = min(n for what, n in count.items() if what not in ("refused 9", "refused 10", "refused 11", "refused 12"))
     if least < 3 or len(count) < KNOWN:
         sys.exit("fixed_list: %d rules, merged lines and refusals, the rarest %d times" % (len(count), least))
     for name, data in written.items():
-        if open(os.path.join(FOLDER, name), "rb").read() != data:
-            sys.exit("fixed_list: list/%s is another" % name)
-    print("fixed list: %d part files, %d bytes, %d bytes of answers; %d rules, merged lines and refusals, each at least %d times" % (len(files), len(written["stdin"]), len(written["stdout"]), len(count), least))
+        if open(os.path.join(CRATES, name), "rb").read() != data:
+            sys.exit("fixed_list: %s is another" % name)
+    print("fixed list: %d part files, %d bytes, %d bytes of answers; %d rules, merged lines and refusals, each at least %d times" % (len(files), len(written["replay_check/stdin"]), len(written["replay_check/stdout"]), len(count), least))
 
 
 if __name__ == "__main__":

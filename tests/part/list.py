@@ -3,7 +3,7 @@
 
 usage: tests/part/list.py make | check | show
 
-crates/replay_verdicts/stdin holds the files packed as in tests/oracle/list, stdout a number a line. Each case here says the number that
+crates/replay_verdicts/stdin holds the files packed as in tests/oracle/fixed_list.py, each after its length, stdout a number a line. Each case here says the number that
 document 01 gives it; the oracle's reader has to say the same, or nothing is written. `make` writes both files, `check` compares, `show` prints
 what each line of stdout is the answer to.
 """
