@@ -120,6 +120,21 @@ mod c {
             out: *mut u8,
             out_len: usize,
         ) -> usize;
+        pub fn gablemadder_check(
+            file: *const u8,
+            len: usize,
+            words: *mut u32,
+            words_len: usize,
+            reals: *mut f64,
+            reals_len: usize,
+            cells: *mut u32,
+            cells_len: usize,
+            numbers: *mut f64,
+            numbers_len: usize,
+            report: *mut u8,
+            report_len: usize,
+            written: *mut usize,
+        ) -> u32;
     }
 }
 
@@ -260,4 +275,11 @@ pub fn sheet_metal(file: &[u8], words: &mut [u32], reals: &mut [f64], cells: &mu
 pub fn message(file: &[u8], cells: &[u32], numbers: &[f64], out: &mut [u8]) -> usize {
     let (c, n, o) = (cells.as_ptr(), numbers.as_ptr(), out.as_mut_ptr());
     unsafe { c::gablemadder_message(file.as_ptr(), file.len(), c, cells.len(), n, numbers.len(), o, out.len()) }
+}
+
+/// 0, the report in the first bytes of `report` and their number in `written`; or the refusal from 1 to 12.
+pub fn check(file: &[u8], words: &mut [u32], reals: &mut [f64], cells: &mut [u32], numbers: &mut [f64], report: &mut [u8], written: &mut usize) -> u32 {
+    let (w, r, c, n, o) = (words.as_mut_ptr(), reals.as_mut_ptr(), cells.as_mut_ptr(), numbers.as_mut_ptr(), report.as_mut_ptr());
+    let (words, reals, cells, numbers) = (words.len(), reals.len(), cells.len(), numbers.len());
+    unsafe { c::gablemadder_check(file.as_ptr(), file.len(), w, words, r, reals, c, cells, n, numbers, o, report.len(), written) }
 }

@@ -1,0 +1,106 @@
+//! Parts of the other tests with a job of any process, and what is changed in a part.
+use crate::draw::Draw;
+use crate::field::set_word;
+use crate::job::{Job, PROCESSES};
+use crate::mesh::Mesh;
+use crate::part::Part;
+use crate::random::Random;
+use crate::{bores, brackets, change, damage, file, ids, machining, sample, shapes, sheet_jobs, sheet_limits, voxels, walls};
+
+/// As the generator draws it, or as the tests of machining and sheet metal do.
+fn job(random: &mut Random) -> Vec<u8> {
+    let process = random.below(PROCESSES.len() as u64) as u32;
+    let mut job = match random.below(4) {
+        0 => machining::job(random),
+        1 => sheet_jobs::draw(random),
+        _ => {
+            let drawn = Job::draw(&mut Draw::of(random.next(), 0), process);
+            file::bytes(&Part::default(), &drawn)[..128].to_vec()
+        }
+    };
+    set_word(&mut job, 0, process);
+    job
+}
+
+pub fn draw(random: &mut Random) -> Mesh {
+    let mut mesh = match random.below(16) {
+        0..=3 => voxels::draw(random),
+        4..=6 => brackets::draw(random),
+        7 => brackets::squares(random),
+        8 => brackets::twins(random),
+        9 => machining::corner(random),
+        10 => shapes::draw(random),
+        11 if random.below(8) == 0 => Mesh::empty(),
+        11 | 12 => {
+            let mut mesh = Mesh::empty();
+            bores::bore(random, &mut mesh);
+            mesh
+        }
+        _ => walls::draw(random),
+    };
+    mesh.job = job(random);
+    mesh
+}
+
+/// With another job, other ids, radii or walls at a limit, or another shape.
+pub fn changed(random: &mut Random, mesh: &Mesh) -> Mesh {
+    let mut copy = if random.below(6) == 0 { change::changed(random, mesh) } else { mesh.clone() };
+    if random.below(2) == 0 {
+        copy.job = job(random);
+    }
+    match random.below(8) {
+        0 => machining::fit_wall(random, &mut copy),
+        1 => machining::fit_rounds(random, &mut copy),
+        2 => sheet_limits::fit_rounds(random, &mut copy),
+        _ => {}
+    }
+    if random.below(2) == 0 {
+        ids::rename(random, &mut copy);
+    }
+    copy
+}
+
+/// Its bytes, damaged in one place or two.
+pub fn damaged(random: &mut Random, mesh: &Mesh) -> Vec<u8> {
+    let mut bytes = mesh.bytes();
+    for _ in 0..1 + random.below(2) {
+        damage::damage(random, &mut bytes);
+    }
+    bytes
+}
+
+/// Hollows of one triangle each, which no two have a corner of in common; their volumes all different, or of so many kinds.
+pub fn hollows(count: usize, faces: usize, kinds: usize) -> Mesh {
+    let mut mesh = Mesh::empty();
+    for k in 0..count {
+        let [x, y] = [3.0 * (k % 64) as f64 - 100.0, 3.0 * (k / 64) as f64 - 100.0];
+        // a triangle of 2 mm² at height z: z × 2 / 3 mm³ below nothing
+        let z = -1.0 - 0.5 * (k % kinds) as f64;
+        mesh.push((8, (k % faces) as u32), vec![[x, y, z], [x + 2.0, y, z], [x, y + 2.0, z]]);
+    }
+    mesh.job = sample::job(4, 0, b"");
+    mesh
+}
+
+fn of_process(mut mesh: Mesh, process: u32) -> Mesh {
+    set_word(&mut mesh.job, 0, process);
+    mesh
+}
+
+/// About as many faults as there may be, and more: corners, flanges and hollows, each with a name.
+pub fn of_many_faults() -> Vec<(String, Mesh)> {
+    let pits = [(682, 0), (683, 1), (684, 2), (683, 0), (1024, 0)];
+    let bends = [(341, 0), (341, 1), (341, 2), (341, 3), (400, 400)];
+    let hollow = [(2047, 1), (2048, 1), (2049, 1), (2047, 2047), (2048, 2048), (2049, 2049), (2048, 16), (4096, 7)];
+    let corners = pits.map(|(n, other)| (format!("{n} pits, {other}"), of_process(voxels::pits(n, other), 0)));
+    let flanges = bends.map(|(n, tight)| (format!("{n} bends, {tight} tight"), of_process(sheet_limits::many_faults(n, 6, tight), 1)));
+    let hollows = hollow.map(|(n, kinds)| (format!("{n} hollows of {kinds} kinds"), hollows(n, 1024, kinds)));
+    corners.into_iter().chain(flanges).chain(hollows).collect()
+}
+
+/// At the most polygons, by each process.
+pub fn large(random: &mut Random) -> Vec<(String, Mesh)> {
+    let parts: Vec<(&str, Mesh)> = shapes::large(random);
+    let each = |(name, mesh): &(&str, Mesh), process: u32| (format!("{name}, process {process}"), of_process(mesh.clone(), process));
+    parts.iter().flat_map(|part| (0..5).map(|process| each(part, process))).collect()
+}
