@@ -5,7 +5,7 @@ use crate::job::{Job, PROCESSES};
 use crate::mesh::Mesh;
 use crate::part::Part;
 use crate::random::Random;
-use crate::{bores, brackets, change, damage, file, ids, machining, sample, shapes, sheet_jobs, sheet_limits, voxels, walls};
+use crate::{bores, brackets, change, damage, file, ids, machining, many, shapes, sheet_jobs, sheet_limits, voxels, walls};
 
 /// As the generator draws it, or as the tests of machining and sheet metal do.
 fn job(random: &mut Random) -> Vec<u8> {
@@ -69,19 +69,6 @@ pub fn damaged(random: &mut Random, mesh: &Mesh) -> Vec<u8> {
     bytes
 }
 
-/// Hollows of one triangle each, which no two have a corner of in common; their volumes all different, or of so many kinds.
-pub fn hollows(count: usize, faces: usize, kinds: usize) -> Mesh {
-    let mut mesh = Mesh::empty();
-    for k in 0..count {
-        let [x, y] = [3.0 * (k % 64) as f64 - 100.0, 3.0 * (k / 64) as f64 - 100.0];
-        // a triangle of 2 mm² at height z: z × 2 / 3 mm³ below nothing
-        let z = -1.0 - 0.5 * (k % kinds) as f64;
-        mesh.push((8, (k % faces) as u32), vec![[x, y, z], [x + 2.0, y, z], [x, y + 2.0, z]]);
-    }
-    mesh.job = sample::job(4, 0, b"");
-    mesh
-}
-
 fn of_process(mut mesh: Mesh, process: u32) -> Mesh {
     set_word(&mut mesh.job, 0, process);
     mesh
@@ -91,11 +78,12 @@ fn of_process(mut mesh: Mesh, process: u32) -> Mesh {
 pub fn of_many_faults() -> Vec<(String, Mesh)> {
     let pits = [(682, 0), (683, 1), (684, 2), (683, 0), (1024, 0)];
     let bends = [(341, 0), (341, 1), (341, 2), (341, 3), (400, 400)];
-    let hollow = [(2047, 1), (2048, 1), (2049, 1), (2047, 2047), (2048, 2048), (2049, 2049), (2048, 16), (4096, 7)];
+    let volumes = [(2047, 1), (2048, 1), (2049, 1), (2047, 2047), (2048, 2048), (2049, 2049), (2048, 16), (4096, 7)];
     let corners = pits.map(|(n, other)| (format!("{n} pits, {other}"), of_process(voxels::pits(n, other), 0)));
     let flanges = bends.map(|(n, tight)| (format!("{n} bends, {tight} tight"), of_process(sheet_limits::many_faults(n, 6, tight), 1)));
-    let hollows = hollow.map(|(n, kinds)| (format!("{n} hollows of {kinds} kinds"), hollows(n, 1024, kinds)));
-    corners.into_iter().chain(flanges).chain(hollows).collect()
+    let hollows = volumes.map(|(n, volumes)| (format!("{n} hollows of {volumes} volumes"), many::hollows(n, volumes)));
+    let lengths = ("682 pits whose corners differ".to_string(), many::corners(682, true));
+    corners.into_iter().chain(flanges).chain(hollows).chain([lengths]).collect()
 }
 
 /// At the most polygons, by each process.

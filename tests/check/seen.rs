@@ -41,6 +41,9 @@ const OF_A_REPORT: [&str; 9] = [
     "a bar in a name",
 ];
 
+/// Rules whose faults are never equal: there is one at the most, or it counts faces.
+const NEVER_MERGED: [&str; 4] = ["Material", "No material", "Not one thickness", "Overhang"];
+
 const SIDES: [&str; 3] = ["one too few", "just enough", "more"];
 
 pub struct Seen(BTreeMap<String, u64>);
@@ -50,6 +53,7 @@ impl Seen {
     pub fn wanted() -> Seen {
         let mut names: Vec<String> = (0..=12).map(answer).collect();
         names.extend(FINDINGS.iter().map(findings::name));
+        names.extend(FINDINGS.iter().filter(|f| !NEVER_MERGED.contains(&f.1)).map(|f| format!("merged {}", f.1)));
         names.extend(PROCESSES.map(|p| format!("accepted, {p}")));
         names.extend(OF_A_REPORT.iter().chain(&["1,000 runs of `corner`"]).map(|what| what.to_string()));
         names.extend(POLYGONS.iter().map(|p| p.0).chain(FEWER.map(|f| f.0)).map(String::from));
@@ -152,5 +156,8 @@ impl Seen {
 }
 
 fn answer(number: u32) -> String {
-    if number == 0 { "answered with a report".into() } else { format!("refused {number}") }
+    if number == 0 {
+        return "answered with a report".into();
+    }
+    format!("refused {number}")
 }

@@ -28,12 +28,16 @@ impl Sizes {
         Sizes(self.0.map(|n| if just { n } else { n + more(random) }))
     }
 
-    /// Of one slice too little: most often one cell too few.
+    /// Of one slice too little, most often one cell too few; now and then of others too, where the lowest refusal counts.
     pub fn short_of(&self, random: &mut Random, slice: usize) -> Sizes {
         let mut sizes = self.enough(random);
-        let n = self.0[slice];
-        let some = random.below(n as u64) as usize;
-        sizes.0[slice] = pick(random, &[n - 1, n - 1, n - 1, some, 0]);
+        for (k, n) in self.0.into_iter().enumerate().filter(|(_, n)| *n > 0) {
+            let some = random.below(n as u64) as usize;
+            let less = pick(random, &[n - 1, n - 1, n - 1, some, 0]);
+            if k == slice || random.below(8) == 0 {
+                sizes.0[k] = less;
+            }
+        }
         sizes
     }
 

@@ -78,6 +78,7 @@ mod voxels;
 mod walls;
 
 mod compare;
+mod many;
 mod parts;
 mod seen;
 mod sizes;
