@@ -43,7 +43,8 @@ pub front-off : (a b : List ℕ) (n k : ℕ) → k < n → (getD a k 0 ≡ getD 
 front-off a b n k h f = text-off _ _ (λ e. f (sym (getD-take n a k 0 h) ∙ ap (λ (l : List ℕ). getD l k 0) e ∙ getD-take n b k 0 h))
 
 -- ---- ranks
-rank-of : (n : ℕ) → n < 3 → severityRank (severityOf n) ≡ n
+-- a row's severity is the rank of the severity that it stands for
+pub rank-of : (n : ℕ) → n < 3 → severityRank (severityOf n) ≡ n
 unfolding severityOf severityRank
 rank-of zero h = refl
 rank-of (suc zero) h = refl
