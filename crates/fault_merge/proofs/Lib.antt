@@ -1,0 +1,24 @@
+-- Laws that callers and the proofs of several functions use.
+-- RowLaws: the faults that rows hold. Other crates cite these:
+--   rows-length, rows-at, rows-heading      row k is fault k
+--   rows-put, rows-good                     rows that rules put hold the faults that were put, and are good
+--   rows-less                               fewer rows
+--   lead-first, count-total, members-length the lowest fault, the count and how many faults a line has, as the lines of faults have them
+--   leaders-lines                           how many lines there are
+-- TextLaws: a text in a buffer of its own, and headings whose ranks are known
+--   text-short, written, front-more, front-off, rank-of, other-rank, by-text
+-- HashLaws: hash-start, hash-step, hash-end the steps of the loop; other-hash: other hashes, other headings
+-- LeadLaws: the lowest fault of a line, and what its faults add up to
+--   shares-heading, heading-shares, shares-self         faults that share a line have one heading
+--   lead-le, lead-least, lead-below, lead-shares, lead-like, lead-lead, lead-of-sharer, sharer-of-lead    `leadIn`
+--   tally-more, tally-le                    one fault more, and how much at most
+-- CellLaws: opened-by, added-by             the stores
+-- MergeLaws: merged-none, merged-more       no fault, and one more; room-at, joined-at: in the words of the calls
+-- CountLaws: leaders-none, leaders-more, leaders-le   the faults that begin a line, counted
+pub mod TextLaws
+pub mod HashLaws
+pub mod LeadLaws
+pub mod CellLaws
+pub mod MergeLaws
+pub mod CountLaws
+pub mod RowLaws

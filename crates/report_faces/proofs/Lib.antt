@@ -1,0 +1,15 @@
+-- The laws on the faces of a line:
+-- TextLaws     ids as text, one after another
+-- SomeLaws     whether some number below n passes a test
+-- MarkLaws     marks, one face after another
+-- CellLaws     the marks of a row and of a line, by the cells of the scratch
+-- IdsLaws      the ids of the faces that pass a test, by rank
+-- NameLaws     the faces that a row names, by the cells and by the part
+-- LineLaws     the faces of a line
+pub mod TextLaws
+pub mod SomeLaws
+pub mod MarkLaws
+pub mod CellLaws
+pub mod IdsLaws
+pub mod NameLaws
+pub mod LineLaws
