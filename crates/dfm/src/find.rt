@@ -58,8 +58,9 @@ fn machined(
     ensures { λ r. ⌜ MachinedPut (now (file .entry)) at (now (words .entry)) (now (words .exit)) (now (reals .entry)) (now (reals .exit)) (now (cells .entry)) (now (cells .exit)) (now (numbers .entry)) (now (numbers .exit)) r ⌝ }
 {
     let body = Body { at: at, faces: n };
+    let faults = machining(file, words, reals, cells, numbers, body);
     Found {
-        faults: machining(file, words, reals, cells, numbers, body),
+        faults: faults,
         summary: Summary::none(),
     }
 }
