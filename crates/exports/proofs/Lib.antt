@@ -1,2 +1,3 @@
 -- Laws behind the functions that are more than a call.
 pub mod Decimal
+pub mod Check
