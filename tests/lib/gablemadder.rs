@@ -110,6 +110,20 @@ mod c {
             summary: *mut f64,
             summary_len: usize,
         ) -> u32;
+        pub fn gablemadder_printing(
+            file: *const u8,
+            len: usize,
+            words: *mut u32,
+            words_len: usize,
+            reals: *mut f64,
+            reals_len: usize,
+            cells: *mut u32,
+            cells_len: usize,
+            numbers: *mut f64,
+            numbers_len: usize,
+            summary: *mut f64,
+            summary_len: usize,
+        ) -> u32;
         pub fn gablemadder_message(
             file: *const u8,
             len: usize,
@@ -254,6 +268,13 @@ pub fn sheet_metal(file: &[u8], words: &mut [u32], reals: &mut [f64], cells: &mu
     let (w, r, c, n, s) = (words.as_mut_ptr(), reals.as_mut_ptr(), cells.as_mut_ptr(), numbers.as_mut_ptr(), summary.as_mut_ptr());
     let (words, reals, cells, numbers) = (words.len(), reals.len(), cells.len(), numbers.len());
     unsafe { c::gablemadder_sheet_metal(file.as_ptr(), file.len(), w, words, r, reals, c, cells, n, numbers, s, summary.len()) }
+}
+
+/// The same by the rules of printing, hollows where the job's process traps them; the summary is 1 where the part has a height, and it.
+pub fn printing(file: &[u8], words: &mut [u32], reals: &mut [f64], cells: &mut [u32], numbers: &mut [f64], summary: &mut [f64]) -> u32 {
+    let (w, r, c, n, s) = (words.as_mut_ptr(), reals.as_mut_ptr(), cells.as_mut_ptr(), numbers.as_mut_ptr(), summary.as_mut_ptr());
+    let (words, reals, cells, numbers) = (words.len(), reals.len(), cells.len(), numbers.len());
+    unsafe { c::gablemadder_printing(file.as_ptr(), file.len(), w, words, r, reals, c, cells, n, numbers, s, summary.len()) }
 }
 
 /// The length of the text of a fault's row; what of it falls past the end of `out` is not written.

@@ -6,7 +6,7 @@ mod material;
 pub mod math;
 pub mod measures;
 mod part;
-mod sine;
+pub mod sine;
 pub mod solid;
 
 /// What dfm.rs imports by the name of its crate.
