@@ -1,5 +1,6 @@
 -- `rule_flanges::legs::add_group` meets its contract: one leg or none, with the first segment of the group.
 use mathlib.Core.Path.{sym, _∙_}
+use Rattle.solid_tours.proofs.PackLaws.{edges-sorted}
 use Rattle.rule_flanges.proofs.LegLaws.{not-true, not-false, group-none, group-one}
 use Rattle.rule_flanges.proofs.WalkLaws.{first-line}
 use native.Mathlib.Omega.{arith}
