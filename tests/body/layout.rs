@@ -71,7 +71,7 @@ impl Layout {
         2 * self.polygons + CELLS * self.vertices + 1024
     }
 
-    /// 1 where face f is one of those that are not of the sheet's thickness, after a call that finds such a fault; else 0.
+    /// 1 where face f is one of those that are not of the sheet's thickness, or that hang over, after a call that finds such a fault; else 0.
     pub fn mark(&self, f: usize) -> usize {
         4 * self.polygons + CELLS * self.vertices + 1024 + f
     }

@@ -28,6 +28,9 @@ mod part;
 #[path = "../oracle/generate/plate.rs"]
 #[allow(dead_code)]
 mod plate;
+#[path = "../printing/parts.rs"]
+#[allow(dead_code)]
+mod prints;
 #[path = "../lib/random.rs"]
 mod random;
 #[path = "../oracle/generate/ring.rs"]

@@ -5,14 +5,16 @@ use crate::job::{Job, PROCESSES};
 use crate::mesh::Mesh;
 use crate::part::Part;
 use crate::random::Random;
-use crate::{bores, brackets, change, damage, file, ids, machining, many, shapes, sheet_jobs, sheet_limits, voxels, walls};
+use crate::shapes::pick;
+use crate::{bores, brackets, change, damage, file, fit, floors, hollows, ids, jobs, machining, many, over, shapes, sheet_jobs, sheet_limits, voxels, walls};
 
-/// As the generator draws it, or as the tests of machining and sheet metal do.
+/// As the generator draws it, or as the tests of machining, sheet metal and printing do.
 fn job(random: &mut Random) -> Vec<u8> {
     let process = random.below(PROCESSES.len() as u64) as u32;
-    let mut job = match random.below(4) {
+    let mut job = match random.below(5) {
         0 => machining::job(random),
         1 => sheet_jobs::draw(random),
+        2 => return jobs::draw(random),
         _ => {
             let drawn = Job::draw(&mut Draw::of(random.next(), 0), process);
             file::bytes(&Part::default(), &drawn)[..128].to_vec()
@@ -22,8 +24,8 @@ fn job(random: &mut Random) -> Vec<u8> {
     job
 }
 
-pub fn draw(random: &mut Random) -> Mesh {
-    let mut mesh = match random.below(16) {
+fn shape(random: &mut Random) -> Mesh {
+    match random.below(20) {
         0..=3 => voxels::draw(random),
         4..=6 => brackets::draw(random),
         7 => brackets::squares(random),
@@ -36,22 +38,38 @@ pub fn draw(random: &mut Random) -> Mesh {
             bores::bore(random, &mut mesh);
             mesh
         }
-        _ => walls::draw(random),
-    };
-    mesh.job = job(random);
+        13 => floors::draw(random),
+        14 => floors::flat(random),
+        15 | 16 => walls::draw(random),
+        // with a job for printing
+        17 => pick(random, &[over::plate, over::small])(random),
+        18 => pick(random, &[over::sums, over::bored])(random),
+        _ => hollows::draw(random),
+    }
+}
+
+pub fn draw(random: &mut Random) -> Mesh {
+    let mut mesh = shape(random);
+    if random.below(3) != 0 {
+        mesh.job = job(random);
+    }
     mesh
 }
 
-/// With another job, other ids, radii or walls at a limit, or another shape.
+/// With another job, other ids, a job, radii or walls at a limit, or another shape.
 pub fn changed(random: &mut Random, mesh: &Mesh) -> Mesh {
     let mut copy = if random.below(6) == 0 { change::changed(random, mesh) } else { mesh.clone() };
     if random.below(2) == 0 {
         copy.job = job(random);
     }
-    match random.below(8) {
+    match random.below(10) {
         0 => machining::fit_wall(random, &mut copy),
         1 => machining::fit_rounds(random, &mut copy),
         2 => sheet_limits::fit_rounds(random, &mut copy),
+        3 | 4 => {
+            let what = pick(random, &fit::ALL);
+            fit::fitted(random, &mut copy, what);
+        }
         _ => {}
     }
     if random.below(2) == 0 {

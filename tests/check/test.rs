@@ -19,14 +19,24 @@ mod field;
 mod file;
 #[path = "../oracle/generate/findings.rs"]
 mod findings;
+#[path = "../printing/fit.rs"]
+mod fit;
+#[path = "../printing/floors.rs"]
+mod floors;
 #[path = "../lib/gablemadder.rs"]
 mod gablemadder;
+#[path = "../printing/hollows.rs"]
+#[allow(dead_code)]
+mod hollows;
 #[path = "../rules/ids.rs"]
 #[allow(dead_code)]
 mod ids;
 #[path = "../oracle/generate/job.rs"]
 #[allow(dead_code)]
 mod job;
+#[path = "../printing/jobs.rs"]
+#[allow(dead_code)]
+mod jobs;
 #[path = "../part/large.rs"]
 mod large;
 #[path = "../lib/lent.rs"]
@@ -36,6 +46,9 @@ mod lent;
 mod machining;
 #[path = "../body/mesh.rs"]
 mod mesh;
+#[path = "../printing/over.rs"]
+#[allow(dead_code)]
+mod over;
 #[path = "../oracle/generate/part.rs"]
 #[allow(dead_code)]
 mod part;
@@ -71,6 +84,9 @@ mod stream;
 mod sweep;
 #[path = "../lib/tally.rs"]
 mod tally;
+#[path = "../printing/ups.rs"]
+#[allow(dead_code)]
+mod ups;
 #[path = "../machining/voxels.rs"]
 #[allow(dead_code)]
 mod voxels;

@@ -56,9 +56,12 @@ struct Corner {
 pub struct Machining;
 
 impl Rules for Machining {
-    const PROCESS: Process = Process::CncMachining;
     const FIRST_KIND: u32 = 1;
     const SUMMARY: usize = 0;
+
+    fn process(_: &[u8]) -> Process {
+        Process::CncMachining
+    }
 
     fn call(file: &[u8], lent: Slices) -> u32 {
         gablemadder::machining(file, lent.words, lent.reals, lent.cells, lent.numbers)

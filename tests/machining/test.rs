@@ -40,6 +40,8 @@ mod stream;
 mod tally;
 #[path = "../rays/walls.rs"]
 mod walls;
+#[path = "../rules/wanted.rs"]
+mod wanted;
 
 mod limits;
 mod seen;

@@ -3,8 +3,8 @@
 
 usage: tests/oracle/fixed_list.py make | check
 
-crates/replay_check/stdin holds the part files as the program reads them: five u32 (little-endian), the length of what follows and how many u32 and
-f64 of scratch, fault rows and report bytes are lent; then the file with each run of zero bytes as a zero and the run's length (1 to 255). Its stdout
+crates/replay_check/stdin holds the part files as the program reads them: six u32 (little-endian), the length of what follows and how many u32 and
+f64 of scratch, u32 and f64 of fault rows (six and three a row) and report bytes are lent; then the file with each run of zero bytes as a zero and the run's length (1 to 255). Its stdout
 holds the answers one after the other, each a report or a refusal's line. `make` writes both again, byte by byte the same; `check` compares.
 The files are document 01's examples, every row of its table of refusals among them, the readings at the edge, and of the generator's files, smallest
 first, as many as it takes for each rule and severity, merged line, refusal, process and shape to stand in several.
@@ -133,7 +133,8 @@ def answered(data, lent):
 
 
 def head(data, lent):
-    return struct.pack("<5I", len(data), *lent) + data
+    words, reals, rows, report = lent
+    return struct.pack("<6I", len(data), words, reals, 6 * rows, 3 * rows, report) + data
 
 
 def main():

@@ -1,15 +1,16 @@
-//! One file: the faults by the rules of a process beside the oracle's, in their order, whatever process the job names.
+//! One file: the faults by the rules of a process beside the oracle's, in their order.
 use crate::counts::Counts;
-use crate::ids::{self, Id};
-use crate::layout::Layout;
+use crate::ids::Id;
 use crate::lent::Lent;
 use crate::mesh::Mesh;
-use crate::regions::same;
-use crate::rows::{Fault, Row, CELLS, MOST, NUMBERS};
+use crate::regions::{self, same};
+use crate::rows::{Row, CELLS, MOST, NUMBERS};
 use crate::scratch::Scratch;
 use crate::tally::Tally;
+use crate::wanted::{Listed, Wanted};
 use crate::{gablemadder, random::Random};
 use oracle::faults::{DfmReport, Part, Process};
+use std::borrow::Cow;
 use std::marker::PhantomData;
 
 /// Every text is shorter.
@@ -27,11 +28,23 @@ pub struct Slices<'a> {
 
 /// The rules of a process: the call that lists the faults, and what a test is to see of them.
 pub trait Rules {
-    const PROCESS: Process;
     /// The first of its kinds of rows.
     const FIRST_KIND: u32;
     /// How many numbers of the summary it fills; where it is lent fewer it answers 0.
     const SUMMARY: usize;
+
+    /// By which a part with this job is checked: most often whatever process it names.
+    fn process(job: &[u8]) -> Process;
+
+    /// A generated file as it is taken.
+    fn taken(file: &[u8], _number: u64) -> Cow<'_, [u8]> {
+        Cow::Borrowed(file)
+    }
+
+    /// Whether faces are marked in the scratch where no fault has them, too.
+    fn always_marks(_job: &[u8]) -> bool {
+        false
+    }
 
     fn call(file: &[u8], lent: Slices) -> u32;
 
@@ -41,20 +54,6 @@ pub trait Rules {
 
     /// What the oracle says of an accepted file.
     fn note(counts: &mut Counts, mesh: &Mesh, faces: &[Id], part: &Part, report: &DfmReport);
-}
-
-/// What a call leaves: the rows that are there, and the cell that each face has for a mark.
-struct Listed {
-    rows: Vec<Row>,
-    marks: Vec<u32>,
-}
-
-/// What the oracle wants of a file.
-struct Wanted {
-    layout: Layout,
-    faces: Vec<Id>,
-    faults: Vec<Fault>,
-    summary: Vec<u64>,
 }
 
 pub struct Compare<R> {
@@ -138,17 +137,12 @@ impl<R: Rules> Compare<R> {
 
     fn accepted(&mut self, file: &[u8], part: &Part) -> Result<(), String> {
         let mesh = Mesh::read(file);
-        let report = part.report(R::PROCESS);
-        let wanted = Wanted {
-            layout: Layout { polygons: mesh.polygons.len(), vertices: mesh.vertices() },
-            faces: ids::of_faces(&mesh),
-            faults: report.findings.iter().map(|f| Fault::theirs(f, R::FIRST_KIND)).collect(),
-            summary: R::summary(&report).into_iter().map(f64::to_bits).collect(),
-        };
+        let report = part.report(R::process(&mesh.job));
+        let wanted = Wanted::of::<R>(&mesh, &report);
         let n = wanted.faults.len();
         let listed = self.listed(&wanted, (CELLS * n, NUMBERS * n))?;
-        let ours = listed.rows.iter().map(|row| Fault::ours(row, &self.text(row)?, &wanted.faces, &listed.marks));
-        same("fault", &ours.collect::<Result<Vec<Fault>, String>>()?, &wanted.faults[..listed.rows.len()])?;
+        let texts = listed.rows.iter().map(|row| self.text(row)).collect::<Result<Vec<_>, String>>()?;
+        wanted.is_met(&listed, &texts)?;
         self.other_rows(&wanted, &listed)?;
         self.cut_text(&listed.rows)?;
         self.too_short(&wanted)?;
@@ -195,6 +189,7 @@ impl<R: Rules> Compare<R> {
         Ok(Listed {
             rows: (0..n).map(|k| Row::read(cells, numbers, k)).collect(),
             marks: (0..wanted.faces.len()).map(|f| words[layout.mark(f)]).collect(),
+            bodies: regions::labels(layout, words),
         })
     }
 
@@ -208,7 +203,7 @@ impl<R: Rules> Compare<R> {
         let parts = (random.below(CELLS as u64) as usize, random.below(NUMBERS as u64) as usize);
         self.counts.add("fewer rows than faults", u64::from(for_cells.min(for_numbers) < faults));
         let other = self.listed(wanted, (CELLS * for_cells + parts.0, NUMBERS * for_numbers + parts.1))?;
-        if wanted.faults.iter().any(Fault::is_marked) {
+        if wanted.marked.is_some() {
             same("mark of a call with other rows", &other.marks, &listed.marks)?;
         }
         same("row of a call with other rows", &other.rows, &listed.rows[..other.rows.len()])

@@ -39,6 +39,7 @@ pub fn run<R: Rules + 'static>(name: &str, seed: u64, own: fn(&mut Compare<R>, b
 fn from_input<R: Rules>(c: &mut Compare<R>, seed: u64, changed: fn(&mut Random, &Mesh) -> Mesh) -> io::Result<()> {
     let mut random = Random(seed);
     stream::each(|number, file| {
+        let file = &R::taken(file, number)[..];
         if c.check(file, || format!("generated file {number}")) == 0 && file.len() < LARGE {
             let changed = changed(&mut random, &Mesh::read(file));
             c.check(&changed.bytes(), || format!("generated file {number}, changed"));

@@ -22,13 +22,15 @@ enum Faces {
     Row(usize),
     /// Those marked in the scratch.
     Marked,
+    /// Those of the body whose lowest polygon the row names.
+    Body,
 }
 
-use Faces::{Marked, Row as InRow};
+use Faces::{Body, Marked, Row as InRow};
 use Mark::Any;
 
-/// Rule, mark and faces of each kind, from 1 on; those up to 7 are of machining.
-const KINDS: [(&str, Mark, Faces); 15] = [
+/// Rule, mark and faces of each kind, from 1 on; those up to 7 are of machining, those from 16 on of printing.
+const KINDS: [(&str, Mark, Faces); 24] = [
     ("Thin wall", Any, InRow(2)),
     ("Small hole", Any, InRow(1)),
     ("Deep hole", Mark::Severity(Severity::Warning), InRow(1)),
@@ -44,6 +46,15 @@ const KINDS: [(&str, Mark, Faces); 15] = [
     ("Small hole", Any, InRow(1)),
     ("Hole too close", Mark::Words(" from a bend;"), InRow(2)),
     ("Hole too close", Mark::Words(" from an edge or another hole;"), InRow(2)),
+    ("Not closed", Any, InRow(0)),
+    ("Thinner than a layer", Any, InRow(2)),
+    ("Few layers", Any, InRow(2)),
+    ("Thinner than the nozzle", Any, InRow(2)),
+    ("Thin wall", Any, InRow(2)),
+    ("Small hole", Any, InRow(1)),
+    ("Overhang", Any, Marked),
+    ("Enclosed hollow", Mark::Severity(Severity::Warning), Body),
+    ("Enclosed hollow", Mark::Severity(Severity::Error), Body),
 ];
 
 /// As it stands in its cells; the numbers as their bits.
@@ -64,6 +75,44 @@ impl Row {
     }
 }
 
+/// What the faces of a row are found by.
+pub struct Part<'a> {
+    /// The id of each face by its number, and of each polygon's face.
+    pub faces: &'a [Id],
+    pub polygons: &'a [Id],
+    /// What the scratch says of each face, and the lowest polygon of each polygon's body.
+    pub marks: &'a [u32],
+    pub bodies: &'a [u32],
+}
+
+impl Part<'_> {
+    fn id(&self, face: u32) -> Result<Id, String> {
+        self.faces.get(face as usize).copied().ok_or(format!("there is no face {face}"))
+    }
+
+    /// The ids of the faces with a 1, sorted; the others have a 0.
+    pub fn marked(&self) -> Result<Vec<Id>, String> {
+        if let Some(f) = self.marks.iter().position(|m| *m > 1) {
+            return Err(format!("face {f} is marked with {}", self.marks[f]));
+        }
+        Ok(sorted(self.faces.iter().zip(self.marks).filter(|(_, m)| **m == 1).map(|(id, _)| *id).collect()))
+    }
+
+    /// The ids of the faces of a body, sorted, each once.
+    fn of_body(&self, lowest: u32) -> Result<Vec<Id>, String> {
+        if self.bodies.get(lowest as usize) != Some(&lowest) {
+            return Err(format!("polygon {lowest} is no lowest one of a body"));
+        }
+        Ok(sorted(self.polygons.iter().zip(self.bodies).filter(|(_, b)| **b == lowest).map(|(id, _)| *id).collect()))
+    }
+}
+
+fn sorted(mut ids: Vec<Id>) -> Vec<Id> {
+    ids.sort();
+    ids.dedup();
+    ids
+}
+
 /// All that is said of a fault. The kind stands for the rule.
 #[derive(PartialEq, Debug)]
 pub struct Fault {
@@ -75,19 +124,20 @@ pub struct Fault {
 }
 
 impl Fault {
-    /// Of a row and its text; the faces by their numbers, and for each what the scratch says of it.
-    pub fn ours(row: &Row, text: &[u8], faces: &[Id], marks: &[u32]) -> Result<Fault, String> {
+    /// Of a row and its text.
+    pub fn ours(row: &Row, text: &[u8], part: &Part) -> Result<Fault, String> {
+        let of_row = |e: String| format!("{e}: {row:x?}");
         let [kind, severity, count, a, b, waived] = row.cells;
         let Some((_, _, of)) = (kind as usize).checked_sub(1).and_then(|k| KINDS.get(k)) else { return Err(format!("no kind: {row:x?}")) };
         if waived != 0 {
             return Err(format!("a fault of a check is waived: {row:x?}"));
         }
-        // both are numbers of faces, whether the kind has a use for them or not
-        let id = |f: u32| faces.get(f as usize).copied().ok_or(format!("there is no face {f}: {row:x?}"));
-        let both = [id(a)?, id(b)?];
+        // numbers of faces, whether the kind has a use for them or not
+        let second = part.id(b).map_err(of_row)?;
         let faces = match of {
-            InRow(n) => both[..*n].to_vec(),
-            Marked => marked(faces, marks)?,
+            InRow(n) => [part.id(a).map_err(of_row)?, second][..*n].to_vec(),
+            Marked => part.id(a).and(part.marked()).map_err(of_row)?,
+            Body => part.of_body(a).map_err(of_row)?,
         };
         Ok(Fault { kind, severity, count: count as usize, faces, text: String::from_utf8_lossy(text).into() })
     }
@@ -108,18 +158,8 @@ impl Fault {
         Fault { kind, severity: f.severity as u32, count: f.count, faces, text: f.message.clone() }
     }
 
-    /// Its faces are those marked in the scratch.
-    pub fn is_marked(&self) -> bool {
-        matches!(KINDS[self.kind as usize - 1].2, Marked)
+    /// Its faces where they are those marked in the scratch.
+    pub fn marked(&self) -> Option<&[Id]> {
+        matches!(KINDS[self.kind as usize - 1].2, Marked).then_some(&self.faces)
     }
-}
-
-/// The ids of the faces with a 1, sorted; the others have a 0.
-fn marked(faces: &[Id], marks: &[u32]) -> Result<Vec<Id>, String> {
-    if let Some(f) = marks.iter().position(|m| *m > 1) {
-        return Err(format!("face {f} is marked with {}", marks[f]));
-    }
-    let mut ids: Vec<Id> = faces.iter().zip(marks).filter(|(_, m)| **m == 1).map(|(id, _)| *id).collect();
-    ids.sort();
-    Ok(ids)
 }

@@ -1,7 +1,8 @@
-//! Parts that hang on one number, and the two neighbouring f64 of it between which the Rust's answer changes: so a limit is met as the Rust's own
-//! roundings have it, wherever the part stands.
+//! Parts of sheet metal that hang on one number.
 use crate::arrange;
 use crate::brackets::{Bracket, Hole, THICK};
+use crate::dial::{self, Dial};
+use crate::ids::Id;
 use crate::jobs;
 use crate::mesh::Mesh;
 use crate::random::Random;
@@ -9,77 +10,40 @@ use crate::shapes::{block, pick};
 use crate::sheet::Run;
 use oracle::faults::{Part, Process};
 
-pub struct Dial {
-    /// Both above 0.
-    ends: [f64; 2],
-    part: Box<dyn Fn(f64) -> Mesh>,
+fn of(bracket: Bracket, ends: [f64; 2], set: impl Fn(&mut Bracket, f64) + 'static) -> Dial {
+    Dial::new(ends, move |x| {
+        let mut copy = bracket.clone();
+        set(&mut copy, x);
+        copy.mesh()
+    })
 }
 
-impl Dial {
-    fn new(ends: [f64; 2], part: impl Fn(f64) -> Mesh + 'static) -> Dial {
-        Dial { ends, part: Box::new(part) }
-    }
-
-    fn of(bracket: Bracket, ends: [f64; 2], set: impl Fn(&mut Bracket, f64) + 'static) -> Dial {
-        Dial::new(ends, move |x| {
-            let mut copy = bracket.clone();
-            set(&mut copy, x);
-            copy.mesh()
-        })
-    }
-
-    /// In another order, place and naming, the same for all numbers, and with this job.
-    fn arranged(self, random: &mut Random) -> Dial {
-        let (seed, job) = (random.next(), jobs::draw(random));
-        Dial::new(self.ends, move |x| {
-            let mut mesh = (self.part)(x);
-            arrange::arranged(&mut Random(seed), &mut mesh);
-            mesh.job.clone_from(&job);
-            mesh
-        })
-    }
-
-    /// The parts at the two numbers of a change and one f64 past each; or those at the ends where there is none.
-    pub fn parts(&self) -> (Option<String>, Vec<Mesh>) {
-        let part = |bits: u64| (self.part)(f64::from_bits(bits));
-        let [mut a, mut b] = self.ends.map(f64::to_bits);
-        let (low, mut high) = (Found::of(&part(a)), Found::of(&part(b)));
-        if low == high {
-            return (None, vec![part(a), part(b)]);
-        }
-        while b - a > 1 {
-            let middle = a + (b - a) / 2;
-            let found = Found::of(&part(middle));
-            if found == low {
-                a = middle;
-            } else {
-                (b, high) = (middle, found);
-            }
-        }
-        let change = low.zip(high).map(|(low, high)| low.change(&high));
-        (change, [a - 1, a, b, b + 1].map(part).to_vec())
-    }
+/// In another order, place and naming, the same for all numbers, and with this job.
+fn arranged(dial: Dial, random: &mut Random) -> Dial {
+    let (seed, job) = (random.next(), jobs::draw(random));
+    dial.then(move |mesh| {
+        arrange::arranged(&mut Random(seed), mesh);
+        mesh.job.clone_from(&job);
+    })
 }
 
-/// What of an answer changes only at a limit: all but the numbers in its texts.
 #[derive(PartialEq)]
-struct Found {
-    faults: Vec<(&'static str, Vec<(u32, u32)>)>,
+pub struct Found {
+    faults: Vec<(&'static str, Vec<Id>)>,
     near_bends: usize,
     thick: bool,
     bends: usize,
 }
 
-impl Found {
-    /// None of a part that is refused.
+impl dial::Found for Found {
     fn of(mesh: &Mesh) -> Option<Found> {
         let report = Part::read(&mesh.bytes()).ok()?.report(Process::SheetMetal);
-        let faults = report.findings.iter().map(|f| (f.rule, f.faces.iter().map(|id| (id.feature, id.index)).collect()));
+        let faults = report.findings.iter().map(|f| (f.rule, dial::ids(f)));
         let near_bends = report.findings.iter().filter(|f| f.message.contains(" from a bend;")).count();
         Some(Found { faults: faults.collect(), near_bends, thick: report.thickness.is_some(), bends: report.bends })
     }
 
-    /// What it is that changes: the thickness first, then the bends, then the first of the rules.
+    /// The thickness first, then the bends, then the first of the rules.
     fn change(&self, other: &Found) -> String {
         let of = |found: &Found, rule: &str| found.faults.iter().filter(|f| f.0 == rule).count();
         let rules = ["Not one thickness", "Tight bend", "Short flange", "Small hole", "Hole too close"];
@@ -108,7 +72,7 @@ pub fn draw(random: &mut Random) -> Dial {
         15 | 16 => between(random),
         _ => plates(random),
     };
-    dial.arranged(random)
+    arranged(dial, random)
 }
 
 /// The inside radius of every bend, against the ratio.
@@ -116,7 +80,7 @@ fn tight(random: &mut Random) -> Dial {
     let count = 1 + random.below(3) as usize;
     let bracket = Bracket::draw(random, count);
     let thick = bracket.thick;
-    Dial::of(bracket, [0.05 * thick, 4.0 * thick], |b, x| b.said.inside = Some(x))
+    of(bracket, [0.05 * thick, 4.0 * thick], |b, x| b.said.inside = Some(x))
 }
 
 /// How much larger the outside radius is, how far its axis is off, or how far it leans.
@@ -131,10 +95,10 @@ fn outside(random: &mut Random) -> Dial {
         bracket.said.lean = pick(random, &[1e-4, 5e-4, 9e-4]);
     }
     match random.below(5) {
-        0 => Dial::of(bracket, [thick, 1.2 * thick], |b, x| b.said.more = Some(x)),
-        1 => Dial::of(bracket, [0.8 * thick, thick], |b, x| b.said.more = Some(x)),
-        2 | 3 => Dial::of(bracket, [0.01 * thick, 0.2 * thick], |b, x| b.said.shift = x),
-        _ => Dial::of(bracket, [1e-4, 4e-3], |b, x| b.said.lean = x),
+        0 => of(bracket, [thick, 1.2 * thick], |b, x| b.said.more = Some(x)),
+        1 => of(bracket, [0.8 * thick, thick], |b, x| b.said.more = Some(x)),
+        2 | 3 => of(bracket, [0.01 * thick, 0.2 * thick], |b, x| b.said.shift = x),
+        _ => of(bracket, [1e-4, 4e-3], |b, x| b.said.lean = x),
     }
 }
 
@@ -143,7 +107,7 @@ fn flanges_that_lean(random: &mut Random) -> Dial {
     let mut bracket = Bracket::draw(random, 1);
     let thick = bracket.thick;
     bracket.runs[2 * random.below(2) as usize] = Run::Straight(2.0 * thick);
-    Dial::of(bracket, [0.02, 0.3], |b, x| b.said.both = x)
+    of(bracket, [0.02, 0.3], |b, x| b.said.both = x)
 }
 
 /// How long the first flange is.
@@ -165,7 +129,7 @@ fn flange(random: &mut Random) -> Dial {
         }
         _ => {}
     }
-    Dial::of(bracket, [2.0 * thick, 7.0 * thick], |b, x| b.runs[0] = Run::Straight(x))
+    of(bracket, [2.0 * thick, 7.0 * thick], |b, x| b.runs[0] = Run::Straight(x))
 }
 
 /// How far two short flanges are turned: nearly parallel ones count once.
@@ -173,7 +137,7 @@ fn slight(random: &mut Random) -> Dial {
     let mut bracket = Bracket::draw(random, 1);
     let (thick, left) = (bracket.thick, random.below(2) == 0);
     bracket.runs = vec![Run::Straight(2.0 * thick), Run::Straight(0.0), Run::Straight(3.0 * thick)];
-    Dial::of(bracket, [0.005, 0.06], move |b, x| b.runs[1] = Run::Bend(b.thick, x, 3, left))
+    of(bracket, [0.005, 0.06], move |b, x| b.runs[1] = Run::Bend(b.thick, x, 3, left))
 }
 
 /// A bracket of few bends with long flanges and a hole in its middle; and the hole's run.
@@ -195,14 +159,14 @@ fn with_hole(random: &mut Random) -> Bracket {
 fn small(random: &mut Random) -> Dial {
     let bracket = with_hole(random);
     let thick = bracket.thick;
-    Dial::of(bracket, [0.2 * thick, 0.9 * thick], |b, x| b.said.hole = Some(x))
+    of(bracket, [0.2 * thick, 0.9 * thick], |b, x| b.said.hole = Some(x))
 }
 
 /// The same, so wide that it comes near the edges, or past them.
 fn said_gap(random: &mut Random) -> Dial {
     let bracket = with_hole(random);
     let thick = bracket.thick;
-    Dial::of(bracket, [0.7 * thick, 12.0 * thick], |b, x| b.said.hole = Some(x))
+    of(bracket, [0.7 * thick, 12.0 * thick], |b, x| b.said.hole = Some(x))
 }
 
 /// Where a hole stands: nearer to this edge, bend or other hole, or to that.
@@ -214,10 +178,10 @@ fn moved(random: &mut Random) -> Dial {
     }
     let long = bracket.length(first.run);
     match random.below(4) {
-        0 => Dial::of(bracket, [first.radius * 1.05, 0.5 * long], |b, x| b.holes[0].x = x),
-        1 => Dial::of(bracket, [0.5 * long, long - first.radius * 1.05], |b, x| b.holes[0].x = x),
-        2 => Dial::of(bracket, [first.radius * 1.05, 8.0 * thick], |b, x| b.holes[0].y = x),
-        _ => Dial::of(bracket, [8.0 * thick, 16.0 * thick - first.radius * 1.05], |b, x| b.holes[0].y = x),
+        0 => of(bracket, [first.radius * 1.05, 0.5 * long], |b, x| b.holes[0].x = x),
+        1 => of(bracket, [0.5 * long, long - first.radius * 1.05], |b, x| b.holes[0].x = x),
+        2 => of(bracket, [first.radius * 1.05, 8.0 * thick], |b, x| b.holes[0].y = x),
+        _ => of(bracket, [8.0 * thick, 16.0 * thick - first.radius * 1.05], |b, x| b.holes[0].y = x),
     }
 }
 
@@ -232,9 +196,9 @@ fn between(random: &mut Random) -> Dial {
     bracket.holes = vec![hole, Hole { cut: 1, ..hole }];
     bracket.holes.truncate(1 + random.below(2) as usize);
     if random.below(2) == 0 {
-        return Dial::of(bracket, [0.6 * thick, 4.4 * thick], |b, x| b.holes[0].x = x);
+        return of(bracket, [0.6 * thick, 4.4 * thick], |b, x| b.holes[0].x = x);
     }
-    Dial::of(bracket, [0.6 * thick, 3.4 * thick], |b, y| b.holes[0].y = y)
+    of(bracket, [0.6 * thick, 3.4 * thick], |b, y| b.holes[0].y = y)
 }
 
 /// The radius of one bend, by the largest of which a hole stays away from every bend.
@@ -246,7 +210,7 @@ fn other_radius(random: &mut Random) -> Dial {
     let x = (16.0 - pick(random, &[3.0, 4.0, 5.0, 6.0])) * thick;
     bracket.holes.push(Hole { run: 0, cut: 0, x, y: 8.0 * thick, radius: 0.5 * thick });
     let bend = 1 + 2 * random.below(2) as usize;
-    Dial::of(bracket, [0.1 * thick, 4.0 * thick], move |b, x| {
+    of(bracket, [0.1 * thick, 4.0 * thick], move |b, x| {
         if let Run::Bend(radius, ..) = &mut b.runs[bend] {
             *radius = x;
         }

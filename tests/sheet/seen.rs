@@ -124,9 +124,12 @@ pub const CHANGES: [(&str, u64); 8] = [
 pub struct Sheet;
 
 impl Rules for Sheet {
-    const PROCESS: Process = Process::SheetMetal;
     const FIRST_KIND: u32 = 8;
     const SUMMARY: usize = 3;
+
+    fn process(_: &[u8]) -> Process {
+        Process::SheetMetal
+    }
 
     fn call(file: &[u8], lent: Slices) -> u32 {
         gablemadder::sheet_metal(file, lent.words, lent.reals, lent.cells, lent.numbers, lent.summary)

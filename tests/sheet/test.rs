@@ -1,5 +1,7 @@
 //! The faults of sheet metal against the Rust's own list before it merges them, in order: severity, rule, text, count and faces; the thickness and the
 //! bends; and refusals 1 to 10. Takes generated files from standard input; with --quick there are fewer of the others.
+#[path = "../rules/arrange.rs"]
+mod arrange;
 #[path = "../rays/bores.rs"]
 mod bores;
 #[path = "../body/change.rs"]
@@ -8,6 +10,8 @@ mod change;
 mod compare;
 #[path = "../rules/counts.rs"]
 mod counts;
+#[path = "../rules/dial.rs"]
+mod dial;
 #[path = "../oracle/generate/draw.rs"]
 #[allow(dead_code)]
 mod draw;
@@ -65,8 +69,9 @@ mod tally;
 mod voxels;
 #[path = "../rays/walls.rs"]
 mod walls;
+#[path = "../rules/wanted.rs"]
+mod wanted;
 
-mod arrange;
 mod brackets;
 mod dials;
 mod jobs;
@@ -140,13 +145,7 @@ fn own_shapes(c: &mut Compare<Sheet>, count: u64) {
 fn own_dials(c: &mut Compare<Sheet>, count: u64) {
     let mut random = Random(37);
     for number in 0..count {
-        let (change, parts) = dials::draw(&mut random).parts();
-        if let Some(what) = change {
-            c.counts.add(&what, 1);
-        }
-        for (k, mesh) in parts.iter().enumerate() {
-            c.check(&mesh.bytes(), || format!("dial {number}, part {k}"));
-        }
+        dials::draw(&mut random).check::<_, dials::Found>(c, number);
     }
 }
 

@@ -3,6 +3,7 @@ use mathlib.Core.Path.{_≡_, refl, sym, ap, _∙_, subst}
 use mathlib.Core.Bool.{true, false}
 use mathlib.Core.List.{List}
 use Prim.Native.Nat.{ℕ, _+_, _≤_, _<_}
+use native.Mathlib.Omega.{arith}
 use lib.Dec.{leb}
 use lib.ListN.{length}
 use lib.Ieee.{Float, nan}
@@ -46,7 +47,7 @@ module _ (s words : List ℕ) (reals : List Float) (q : ℕ) (e : q ≡ bodyRefu
                 answer = ap (λ (n : ℕ). 1000 + n) (put-count (partOf s) cells cells′ numbers numbers′ _ _ (put .put));
                 put = put-some (partOf s) cells cells′ numbers numbers′ _ _ _ refl (put .put);
                 words-kept = rule-words s at placed words words1 w words2 (put .words-kept);
-                reals-kept = rule-reals s at placed reals reals1 r reals2 (put .reals-kept);
+                reals-kept = rule-reals s at placed reals reals1 r (at .free) reals2 (omega (arith, placed .laid)) (put .reals-kept);
               };
         }
 

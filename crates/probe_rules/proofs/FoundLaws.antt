@@ -2,7 +2,7 @@
 use mathlib.Core.Path.{_≡_, refl, _∙_, subst}
 use mathlib.Core.Bool.{Bool, cond}
 use mathlib.Core.List.{List, []}
-use Prim.Native.Nat.{ℕ}
+use Prim.Native.Nat.{ℕ, _≤_}
 use native.Mathlib.Omega.{arith}
 use lib.Dec.{eqb}
 use lib.ListN.{length}
@@ -72,6 +72,6 @@ module _ (s : List ℕ) (at : Regions) (placed : Placed s at) where
     pub body-reals : Outside nan 0 (realsNeeded (polygonCount s) (vertexCount s)) reals reals1
     body-reals = outside-wide nan _ _ _ _ reals reals1 (omega arith) (omega (arith, laid, counts)) r
 
-    pub rule-reals : (reals2 : List Float) → Outside nan (at .falling) (at .free) reals1 reals2 → Outside nan 0 (realsNeeded (polygonCount s) (vertexCount s)) reals reals2
-    rule-reals reals2 more =
-        outside-then nan _ _ reals reals1 reals2 body-reals (outside-wide nan _ _ _ _ reals1 reals2 (omega arith) (omega (arith, laid, counts)) more)
+    pub rule-reals : (e : ℕ) (reals2 : List Float) → e ≤ at .reals → Outside nan (at .falling) e reals1 reals2 → Outside nan 0 (realsNeeded (polygonCount s) (vertexCount s)) reals reals2
+    rule-reals e reals2 most more =
+        outside-then nan _ _ reals reals1 reals2 body-reals (outside-wide nan _ _ _ _ reals1 reals2 (omega arith) (omega (arith, laid, counts, most)) more)

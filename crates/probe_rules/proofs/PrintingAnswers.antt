@@ -115,7 +115,7 @@ module _ (s words : List ℕ) (reals : List Float) where
                   summary-put = subst (λ (y : Summary). HeightPut y summary summary′) (print .summary ∙ some-found (partOf s) some) put;
                   marks = λ limit _. subst (λ (a : Regions). Marks (partOf s) (leanOf (partOf s)) a words2) (placed-regions s at placed _ _ without bodies) (print .marks limit);
                   words-kept = rule-words s at placed words words1 w words2 (print .words-kept);
-                  reals-kept = rule-reals s at placed reals reals1 r reals2 (print .reals-kept);
+                  reals-kept = rule-reals s at placed reals reals1 r (at .free) reals2 (omega (arith, placed .laid)) (print .reals-kept);
                 };
           }
         where

@@ -145,7 +145,7 @@ module _ (s words : List ℕ) (reals : List Float) where
                   summary-put = subst (λ (y : Summary). SummaryPut y summary summary′) (sheet .summary ∙ some-found (partOf s) some) put;
                   marks = λ f m u _. subst (λ (a : Regions). OffFaces (partOf s) a words2) (placed-regions s at placed _ _ with without) (sheet .marks f m u);
                   words-kept = rule-words s at placed words words1 w words2 (sheet .words-kept);
-                  reals-kept = rule-reals s at placed reals reals1 r reals2 (sheet .reals-kept);
+                  reals-kept = rule-reals s at placed reals reals1 r (at .reals) reals2 (omega arith) (sheet .reals-kept);
                 };
           }
         where

@@ -1,5 +1,6 @@
-// Replays the fixed list of part files through the check, and prints each answer as the program prints it. On standard input a file stands after five
-// u32: the length of what follows, then how many u32 and f64 of scratch, fault rows and report bytes are lent; then the file, packed.
+// Replays the fixed list of part files through the check, and prints each answer as the program prints it. On standard input a file stands after six
+// u32: the length of what follows, then how many u32 and f64 of scratch, u32 and f64 of fault rows, and report bytes are lent; then the file, packed.
+ghost use Prim.Native.Nat.{_≤_};
 use dfm::check::check;
 use dfm_print::print_answer;
 use file_field::read::u32_at;
@@ -16,19 +17,25 @@ const WORDS: usize = 6_432;
 
 const REALS: usize = 7_456;
 
-const ROWS: usize = 512;
+const CELLS: usize = 3_072;
+
+const NUMBERS: usize = 1_536;
 
 const REPORT: usize = 65_536;
 
-// How many cells of each slice are lent.
+// How much of each slice is lent.
 struct Lent {
     words: usize,
     reals: usize,
-    rows: usize,
+    cells: usize,
+    numbers: usize,
     report: usize,
 }
 
-fn lesser(a: usize, b: usize) -> usize {
+// The lesser of two numbers.
+fn lesser(a: usize, b: usize) -> usize
+    ensures { λ r. ⌜ r ≤ b ⌝ }
+{
     if a < b {
         return a;
     }
@@ -36,25 +43,47 @@ fn lesser(a: usize, b: usize) -> usize {
 }
 
 // Checks a file with so much lent.
-fn answer(file: &[u8], lent: Lent) {
-    let mut words = [0u32; WORDS];
-    let mut reals = [0.0f64; REALS];
-    let mut cells = [0u32; 6 * ROWS];
-    let mut numbers = [0.0f64; 3 * ROWS];
-    let mut report = [0u8; REPORT];
-    let w = lesser(lent.words, WORDS);
-    let r = lesser(lent.reals, REALS);
-    let n = lesser(lent.rows, ROWS);
-    let b = lesser(lent.report, REPORT);
+fn answer(
+    file: &[u8],
+    words: &mut [u32],
+    reals: &mut [f64],
+    cells: &mut [u32],
+    numbers: &mut [f64],
+    report: &mut [u8],
+    lent: Lent,
+) {
+    let w = lesser(lent.words, words.len());
+    let r = lesser(lent.reals, reals.len());
+    let c = lesser(lent.cells, cells.len());
+    let n = lesser(lent.numbers, numbers.len());
+    let b = lesser(lent.report, report.len());
     let answer = check(
         file,
         &mut words[..w],
         &mut reals[..r],
-        &mut cells[..6 * n],
-        &mut numbers[..3 * n],
+        &mut cells[..c],
+        &mut numbers[..n],
         &mut report[..b],
     );
-    print_answer(answer, &report);
+    print_answer(answer, report);
+}
+
+// Checks a file, and prints the answer.
+fn replay_file(file: &[u8], lent: Lent) {
+    let mut words = [0u32; WORDS];
+    let mut reals = [0.0f64; REALS];
+    let mut cells = [0u32; CELLS];
+    let mut numbers = [0.0f64; NUMBERS];
+    let mut report = [0u8; REPORT];
+    answer(
+        file,
+        &mut words,
+        &mut reals,
+        &mut cells,
+        &mut numbers,
+        &mut report,
+        lent,
+    );
 }
 
 // Replays a file that is packed in n bytes; false where there are not so many.
@@ -67,7 +96,7 @@ fn replay(file: &mut [u8], packed: &mut [u8], n: usize, lent: Lent) -> bool {
     }
     let length = replay_packed::unpack(file, &packed[..n]);
     if length <= file.len() {
-        answer(&file[..length], lent);
+        replay_file(&file[..length], lent);
     } else {
         io::write_all(STDOUT_FILENO, b"too long\n");
     }
@@ -76,15 +105,16 @@ fn replay(file: &mut [u8], packed: &mut [u8], n: usize, lent: Lent) -> bool {
 
 // Replays the next file; false where there is none.
 fn replay_next(file: &mut [u8; LONGEST], packed: &mut [u8; LONGEST_PACKED]) -> bool {
-    let mut head = [0u8; 20];
-    if io::read_full(STDIN_FILENO, &mut head) < 20 {
+    let mut head = [0u8; 24];
+    if io::read_full(STDIN_FILENO, &mut head) < 24 {
         return false;
     }
     let lent = Lent {
         words: u32_at(&head, 4) as usize,
         reals: u32_at(&head, 8) as usize,
-        rows: u32_at(&head, 12) as usize,
-        report: u32_at(&head, 16) as usize,
+        cells: u32_at(&head, 12) as usize,
+        numbers: u32_at(&head, 16) as usize,
+        report: u32_at(&head, 20) as usize,
     };
     replay(file, packed, u32_at(&head, 0) as usize, lent)
 }

@@ -67,10 +67,10 @@ module _ (s : List ℕ) (at : Regions) (w0 w1 w2 : List ℕ) (r0 r1 r2 : List Fl
         (outside-then 0 _ _ w1 w2 w3 (outside-wide 0 _ _ _ _ w1 w2 (omega (arith, laid)) (omega arith) cells2)
         (outside-wide 0 _ _ _ _ w2 w3 (omega arith) (omega (arith, laid)) (edges .words-kept)))
 
-    pub reals-all : Outside nan (at .falling) (at .free) r0 r3
+    pub reals-all : Outside nan (at .falling) (at .reals) r0 r3
     reals-all =
         outside-then nan _ _ r0 r1 r3 (outside-wide nan _ _ _ _ r0 r1 (omega arith) (omega (arith, laid)) reals1)
-        (outside-then nan _ _ r1 r2 r3 (outside-wide nan _ _ _ _ r1 r2 (omega (arith, laid)) (omega arith) reals2)
+        (outside-then nan _ _ r1 r2 r3 (outside-wide nan _ _ _ _ r1 r2 (omega (arith, laid)) (omega (arith, laid)) reals2)
         (outside-wide nan _ _ _ _ r2 r3 (omega (arith, laid)) (omega arith) (edges .reals-kept)))
 
     pub ready-put : (m : ℕ) → m ≡ length (readingsOf (partOf s)) →

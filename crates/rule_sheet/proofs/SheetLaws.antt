@@ -134,7 +134,7 @@ module _ (s : List ℕ) (at : Regions) (w0 w1 w2 : List ℕ) (r0 r1 r2 : List Fl
       outside-then 0 _ _ w0 w1 w2 (outside-wide 0 _ _ _ _ w0 w1 (omega arith) (omega (arith, laid)) (made .words-kept))
       (outside-wide 0 _ _ _ _ w1 w2 (omega (arith, laid)) (omega (arith, laid)) (measured .words-kept))
 
-  pub reals-then : Outside nan (at .falling) (at .free) r0 r2
+  pub reals-then : Outside nan (at .falling) (at .reals) r0 r2
   reals-then = outside-then nan _ _ r0 r1 r2 (made .reals-kept) (outside-wide nan _ _ _ _ r1 r2 (omega arith) (omega (arith, laid)) (measured .reals-kept))
 
   pub some-kept : (found .kept ≡ 0 → ⊥) → 1 ≤ found .kept
@@ -242,7 +242,7 @@ module _ (s : List ℕ) (at : Regions) (w0 w1 : List ℕ) (r0 r1 : List Float) (
       outside-wide 0 (at .order) (at .words) _ _ w0 w1 (omega (arith, laid-at)) (omega arith)
       (record { below = ranks .only .before; above = ranks .only .past; long = ranks .only .long })
 
-  pub reals-ranked : Outside nan (at .falling) (at .free) r0 r1
+  pub reals-ranked : Outside nan (at .falling) (at .reals) r0 r1
   reals-ranked = outside-wide nan _ _ _ _ r0 r1 (omega arith) (omega (arith, laid-at)) (ranks .only .keys)
 
   pub said : FaultsPut (faultOf (partOf s)) (GoodRow (partOf s)) 0 (materialFaults (partOf s)) c0 c1 n0 n1 k
@@ -266,7 +266,7 @@ module _ (s : List ℕ) (at : Regions) (w0 w1 : List ℕ) (r0 r1 : List Float) (
     pub words-metal : Outside 0 (at .items) (at .words) w0 w2
     words-metal = outside-then 0 _ _ w0 w1 w2 words-ranked (formed .words-kept)
 
-    pub reals-metal : Outside nan (at .falling) (at .free) r0 r2
+    pub reals-metal : Outside nan (at .falling) (at .reals) r0 r2
     reals-metal = outside-then nan _ _ r0 r1 r2 reals-ranked (formed .reals-kept)
 
     pub cells-metal : length c2 ≡ length c0

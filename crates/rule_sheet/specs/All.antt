@@ -65,4 +65,4 @@ pub record SheetPut (s : List ℕ) (at : Regions) (words words′ : List ℕ) (r
   pub ranked : Ranked (partOf s) at words′
   pub marks : isFormed (partOf s .job) ≡ true → isMeasured (partOf s) ≡ true → isUneven (partOf s) ≡ true → OffFaces (partOf s) at words′
   pub words-kept : Outside 0 (at .items) (at .words) words words′
-  pub reals-kept : Outside nan (at .falling) (at .free) reals reals′
+  pub reals-kept : Outside nan (at .falling) (at .reals) reals reals′

@@ -48,7 +48,7 @@ pub record ReadyPut (s : List ℕ) (at : Regions) (words words′ : List ℕ) (r
   pub rounds : Rounds (partOf s) at words′ reals′
   pub ordered : EdgesOrdered s at words′ reals′
   pub words-kept : Outside 0 (at .items) (at .ranks) words words′
-  pub reals-kept : Outside nan (at .falling) (at .free) reals reals′
+  pub reals-kept : Outside nan (at .falling) (at .reals) reals reals′
 
 -- the fault of a tight bend, or none, in any part
 pub record TightPut (inner : Round) (outer : ℕ) (least : Float) (from : ℕ) (cells cells′ : List ℕ) (numbers numbers′ : List Float) (r : ℕ) : Type 0 where
@@ -75,4 +75,4 @@ pub record FormedPut (s : List ℕ) (at : Regions) (from : ℕ) (words words′ 
   pub ranked : Ranked (partOf s) at words′
   pub marks : isMeasured (partOf s) ≡ true → isUneven (partOf s) ≡ true → OffFaces (partOf s) at words′
   pub words-kept : Outside 0 (at .items) (at .words) words words′
-  pub reals-kept : Outside nan (at .falling) (at .free) reals reals′
+  pub reals-kept : Outside nan (at .falling) (at .reals) reals reals′

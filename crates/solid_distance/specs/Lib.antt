@@ -1,2 +1,3 @@
--- The distance of a point from a segment.
+-- The distance of a point from a segment, and a segment as it is kept.
 pub mod Segment
+pub mod Kept

@@ -1,2 +1,3 @@
 // How far a point is from a segment.
+pub mod kept;
 pub mod segment;

@@ -16,11 +16,10 @@ fn clamp_unit(x: f64) -> f64
     x
 }
 
-// Where on the segment from a along ab the point nearest to p lies, as a fraction of ab.
-fn fraction_along(p: Vec3, a: Vec3, ab: Vec3) -> f64
-    ensures { λ r. ⌜ r ≡ along p a ab ⌝ }
+// Where on the segment from a along ab the point nearest to p lies, as a fraction of ab, whose squared length is lent.
+pub fn fraction_along(p: Vec3, a: Vec3, ab: Vec3, square: f64) -> f64
+    ensures { λ r. ⌜ r ≡ along p a ab square ⌝ }
 {
-    let square = ab.length_sq();
     if square < 1e-18 {
         return 0.0;
     }
@@ -32,7 +31,7 @@ pub fn nearest_on(p: Vec3, a: Vec3, b: Vec3) -> Vec3
     ensures { λ r. ⌜ r ≡ nearestOn p a b ⌝ }
 {
     let ab = b.sub(a);
-    a.add(ab.mul(fraction_along(p, a, ab)))
+    a.add(ab.mul(fraction_along(p, a, ab, ab.length_sq())))
 }
 
 // The distance of p from the segment from a to b.

@@ -1,7 +1,6 @@
 -- The least distance from edges, side by side: the root of the least square is the least distance.
 use mathlib.Core.Path.{_≡_, refl, sym, ap, _∙_, subst}
 use mathlib.Core.Bool.{Bool, true, false, cond}
-use mathlib.Core.List.{List}
 use mathlib.Core.Logic.{_⊎_, inl, inr}
 use Prim.Native.Nat.{ℕ, zero, suc, _+_, _*_, _≤_, _<_}
 use native.Mathlib.Numerals.{add-one}
@@ -19,22 +18,12 @@ use Rattle.num_norm.proofs.Squares.{squared-operand}
 use Rattle.num_real.specs.Select.{minOf}
 use Rattle.math.specs.declared.Vec3.{Vec3}
 use Rattle.math.specs.Vector.{minus, lengthSqOf, lengthOf, distanceOf}
-use Rattle.file_field.specs.Field.{vecAt}
-use Rattle.file_part.specs.Part.{Part, partOf}
-use Rattle.file_part.proofs.PartLaws.{part-vertex}
+use Rattle.file_part.specs.Part.{Part}
 use Rattle.solid_segments.specs.Sides.{toOf}
 use Rattle.solid_distance.specs.Segment.{nearestOn, segDistance}
 use Rattle.solid_edges.specs.Distance.{sideDistance, sideSquare, distanceTo}
 
 -- ---- one side
-pub square-is : (file : List ℕ) (s to : ℕ) (p a b n d : Vec3) (r : Float) → to ≡ toOf (partOf file) s → a ≡ vecAt file (24 * s) → b ≡ vecAt file (24 * to) →
-    n ≡ nearestOn p a b → d ≡ minus n p → r ≡ lengthSqOf d → r ≡ sideSquare (partOf file) p s
-unfolding sideSquare
-square-is file s to p a b n d r e x y q m h =
-    let from : a ≡ partOf file .vertex s = x ∙ sym (part-vertex file s) in
-    let far : b ≡ partOf file .vertex (toOf (partOf file) s) = y ∙ sym (part-vertex file to) ∙ ap (λ (k : ℕ). partOf file .vertex k) e in
-    h ∙ rw (m, q, from, far)
-
 root-square : (t : Part) (p : Vec3) (s : ℕ) → sideDistance t p s ≡ root (sideSquare t p s)
 unfolding sideDistance sideSquare segDistance distanceOf lengthOf lengthSqOf
 root-square t p s = refl
@@ -44,14 +33,6 @@ unfolding sideSquare lengthSqOf
 square-operand t p s =
     let v = minus (nearestOn p (t .vertex s) (t .vertex (toOf t s))) p in
     squared-operand (v .x) (v .y) (v .z)
-
--- ---- `nearer`
-module _ (t : Part) (p : Vec3) (s : ℕ) (x y : Float) (e : y ≡ sideSquare t p s) where
-  pub nearer-less : lt y x ≡ true → y ≡ lesser x (sideSquare t p s)
-  nearer-less l = rw (← e, l)
-
-  pub nearer-same : lt y x ≡ false → x ≡ lesser x (sideSquare t p s)
-  nearer-same l = rw (← e, l)
 
 -- ---- side by side
 -- x is the least square over the sides below n that pass the test: its root is the least distance

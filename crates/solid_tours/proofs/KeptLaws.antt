@@ -1,21 +1,23 @@
 -- The sorted edges still stand after changes of the readings, the hits, the work of sorting, the rounds and their measures.
-use mathlib.Core.Path.{_≡_, sym, _∙_, subst}
+use mathlib.Core.Path.{_≡_, sym, ap, _∙_, subst}
 use mathlib.Core.List.{List}
 use Prim.Native.Nat.{ℕ, _+_, _*_}
 use native.Mathlib.Omega.{arith}
+use lib.ListN.{getD}
 use lib.Ieee.{Float, nan}
 use Rattle.list_laws.specs.Region.{Outside}
 use Rattle.list_laws.proofs.Outside.{outside-part, outside-after}
 use Rattle.list_groups.specs.Order.{Keyed, Grouped}
 use Rattle.file_part.specs.Part.{partOf}
 use Rattle.solid_faces.specs.Faces.{facesOf}
+use Rattle.solid_distance.proofs.KeptLaws.{segment-same}
 use Rattle.scratch.specs.declared.regions.Regions.{Regions}
 use Rattle.scratch.proofs.StandingLaws.{placed-vertices, standing-kept}
 use Rattle.solid_ranks.proofs.KeptLaws.{ranked-kept}
-use Rattle.solid_tours.specs.Kept.{itemCount, itemKey, edgeKeys, edgeOrder, EdgesOrdered}
+use Rattle.solid_tours.specs.Kept.{itemCount, itemSide, itemKey, edgeKeys, edgeOrder, sideSegment, packedAt, OrderedTo}
 use Rattle.solid_tours.proofs.FewEdges.{items-most}
 
-module _ (s : List ℕ) (at : Regions) (words words′ : List ℕ) (reals reals′ : List Float) (o : EdgesOrdered s at words reals) (w : Outside 0 (at .readings) (at .ranks) words words′)
+module _ (s : List ℕ) (at : Regions) (words words′ : List ℕ) (reals reals′ : List Float) {done : ℕ} (o : OrderedTo s at words reals done) (w : Outside 0 (at .readings) (at .ranks) words words′)
     (r : Outside nan (at .falling) (at .directions) reals reals′) where
   keys-same : edgeKeys at reals′ ≡ edgeKeys at reals
   keys-same =
@@ -26,7 +28,7 @@ module _ (s : List ℕ) (at : Regions) (words words′ : List ℕ) (reals reals�
       outside-part 0 (at .readings) (at .ranks) (at .sorted) (at .chain) words words′ (omega (arith, o .standing .placed .laid))
       (omega (arith, o .standing .placed .laid, o .standing .words-room)) w
 
-  pub ordered-kept : EdgesOrdered s at words′ reals′
+  pub ordered-kept : OrderedTo s at words′ reals′ done
   ordered-kept =
       record {
         standing = standing-kept s at (at .ranks) (at .directions) words words′ reals reals′ (o .standing) w r;
@@ -36,4 +38,7 @@ module _ (s : List ℕ) (at : Regions) (words words′ : List ℕ) (reals reals�
             w .below (at .items + k) (omega (arith, l, items-most (partOf s), placed-vertices s at (o .standing .placed), o .standing .placed .laid)) ∙ o .sides k l;
         keyed = subst (λ (l : List Float). Keyed l (itemKey (partOf s)) (itemCount (partOf s)) (facesOf (partOf s) * facesOf (partOf s))) (sym keys-same) (o .keyed);
         grouped = subst (Grouped (itemKey (partOf s)) (itemCount (partOf s)) (facesOf (partOf s) * facesOf (partOf s))) (sym order-same) (o .grouped);
+        packed = λ j l.
+            segment-same reals reals′ (packedAt at j) (λ i a b. r .above i (omega (arith, a, o .standing .placed .laid))) ∙ o .packed j l
+            ∙ ap (λ (xs : List ℕ). sideSegment (partOf s) (itemSide (partOf s) (getD xs j 0))) (sym order-same);
       }

@@ -12,6 +12,7 @@
 --   sides-none, sides-more, sides-mem   the edges at some places
 --   place-edge, place-between, group-first      what stands at the places of a face and of a group
 -- KeptLaws: ordered-kept                the edges still stand after changes past them
+-- PackLaws: edges-sorted                what is packed is sorted; and the steps of `pack`
 -- LeastLaws: same-least, least-distance         the least of some squared distances, in whatever order
 -- FewEdges: items-most                  there are no more items than sides
 -- PutLaws: still-standing, still-ranked, and the steps of `order`. Passing, ItemLaws, PlaceLaws: the items and their places
@@ -20,6 +21,7 @@ pub mod FewEdges
 pub mod ItemLaws
 pub mod PutLaws
 pub mod PlaceLaws
+pub mod PackLaws
 pub mod LeastLaws
 pub mod EdgeLaws
 pub mod TourLaws

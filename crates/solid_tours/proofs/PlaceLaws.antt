@@ -30,7 +30,7 @@ use Rattle.scratch.proofs.StandingLaws.{placed-polygons, placed-vertices}
 use Rattle.solid_ranks.specs.Ranks.{rankOf, faceOfRank}
 use Rattle.solid_ranks.proofs.RankLaws.{rank-below}
 use Rattle.solid_tours.specs.Tours.{edgesBetween, overNeighbours, edgesOf}
-use Rattle.solid_tours.specs.Kept.{itemCount, itemSide, itemKey, keyStart, edgeOrder, sidesAt, EdgesOrdered, FacePlaces, ItemAt}
+use Rattle.solid_tours.specs.Kept.{itemCount, itemSide, itemKey, keyStart, edgeOrder, sidesAt, OrderedTo, FacePlaces, ItemAt}
 use Rattle.solid_tours.proofs.FewEdges.{items-most}
 use Rattle.solid_tours.proofs.ItemLaws.{item-side, rank-items}
 
@@ -99,7 +99,7 @@ edges-joined t f =
     (λ r h. unless-self (edgesBetween t f (faceOfRank t r)))
 
 -- ---- the sorted items
-module _ (s : List ℕ) (at : Regions) (words : List ℕ) (reals : List Float) (o : EdgesOrdered s at words reals) where
+module _ (s : List ℕ) (at : Regions) (words : List ℕ) (reals : List Float) {done : ℕ} (o : OrderedTo s at words reals done) where
   abbrev t : Part
   t = partOf s
 

@@ -36,8 +36,8 @@ use Rattle.solid_ranks.specs.Ranks.{rankOf}
 use Rattle.solid_ranks.specs.Kept.{Ranked}
 use Rattle.solid_ranks.proofs.RankLaws.{rank-below}
 use Rattle.solid_ranks.proofs.KeptLaws.{ranked-kept}
-use Rattle.solid_tours.specs.Kept.{edgeSides, itemCount, itemSide, itemFace, itemOther, itemKey, edgeKeys, edgeOrder, EdgesPut}
-use Rattle.solid_tours.specs.Work.{nearKey, farKey, EdgesTo, EdgePut, AllPut}
+use Rattle.solid_tours.specs.Kept.{edgeSides, itemCount, itemSide, itemFace, itemOther, itemKey, edgeKeys, edgeOrder}
+use Rattle.solid_tours.specs.Work.{nearKey, farKey, EdgesTo, EdgePut, AllPut, SortedPut}
 use Rattle.solid_tours.proofs.Passing.{passing-more, passing-past}
 use Rattle.solid_tours.proofs.FewEdges.{items-most, items-room}
 use Rattle.solid_tours.proofs.ItemLaws.{key-below}
@@ -360,12 +360,12 @@ module _ (s : List ℕ) (at : Regions) (words words1 : List ℕ) (reals reals1 :
     order-is : edgeOrder at words2 ≡ x
     order-is = part-put (at .sorted) (at .chain) words1 x (omega (arith, inside, h .placed .laid)) long
 
-    pub edges-put : at .segments ≡ true → EdgesPut s at words words2 reals reals1 m
-    edges-put on =
+    pub sorted-put : at .segments ≡ true → SortedPut s at words words2 reals reals1 m
+    sorted-put on =
         record {
           count = counted;
           few = most;
-          ordered = record {
+          sorted = record {
             standing = still-standing s at words words2 reals reals1 (at .chain) h (omega (arith, h .placed .laid)) words-kept (all .reals-kept);
             edged = on;
             ranked = still-ranked s at words words2 reals reals1 (at .chain) h (omega (arith, h .placed .laid)) words-kept (all .reals-kept) ranked;
@@ -373,6 +373,7 @@ module _ (s : List ℕ) (at : Regions) (words words1 : List ℕ) (reals reals1 :
                 order-put .below (at .items + k) (omega (arith, l, counted, most, h .placed .laid)) ∙ side-there v at m words1 reals1 (all .put) k (omega (arith, l, counted));
             keyed = subst (λ (k : ℕ). Keyed (edgeKeys at reals1) (itemKey v) k (n * n)) counted keyed;
             grouped = subst₂ (λ (k : ℕ) (l : List ℕ). Grouped (itemKey v) k (n * n) l) counted (sym order-is) (sorted .grouped (itemKey v) (n * n) keyed);
+            packed = λ j l. absurd (omega (arith, l));
           };
           words-kept = words-kept;
           reals-kept = all .reals-kept;

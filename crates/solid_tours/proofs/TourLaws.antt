@@ -27,19 +27,21 @@ use Rattle.list_groups.proofs.Walks.{empty-between}
 use Rattle.file_part.specs.Part.{Part, partOf}
 use Rattle.file_ok.specs.Verdict.{Readable}
 use Rattle.solid_faces.specs.Faces.{facesOf}
+use Rattle.solid_distance.specs.declared.kept.Segment.{Segment}
+use Rattle.solid_distance.specs.Kept.{squareTo}
 use Rattle.solid_edges.specs.Edges.{isEdgeOf, isBetween, leadsTo}
 use Rattle.solid_edges.specs.Neighbours.{firstBetween}
-use Rattle.solid_edges.specs.Distance.{sideSquare}
 use Rattle.scratch.specs.declared.regions.Regions.{Regions}
 use Rattle.solid_ranks.specs.Ranks.{rankOf, faceOfRank}
 use Rattle.solid_ranks.proofs.RankLaws.{rank-below, rank-apart, face-of-rank}
 use Rattle.solid_tours.specs.declared.tour.Places.{Places}
 use Rattle.solid_tours.specs.declared.tour.Group.{Group}
 use Rattle.solid_tours.specs.Tours.{edgesBetween, overNeighbours, leastSquare, leastDistance}
-use Rattle.solid_tours.specs.Kept.{itemCount, itemSide, itemFace, itemOther, itemKey, keyStart, edgeKeys, edgeOrder, sidesAt, EdgesOrdered, FacePlaces, RestPlaces, GroupPlaces, NextGroup, TourTo, ItemAt}
+use Rattle.solid_tours.specs.Kept.{itemCount, itemSide, itemFace, itemOther, itemKey, keyStart, edgeKeys, edgeOrder, sidesAt, sideSegment, EdgesOrdered, FacePlaces, RestPlaces, GroupPlaces, NextGroup, TourTo, ItemAt}
 use Rattle.solid_tours.proofs.ItemLaws.{face-inside, other-inside, item-leads, between-items, rank-items}
 use Rattle.solid_tours.proofs.ItemLaws as items
 use Rattle.solid_tours.proofs.PlaceLaws.{part-keys, readable, most, item-below, start-mono-key, start-inside, in-group, row-inside}
+use Rattle.solid_tours.proofs.PackLaws.{side-square}
 use Rattle.solid_tours.proofs.LeastLaws.{least-more, least-nil}
 use Rattle.solid_tours.proofs.EdgeLaws.{between-edge, of-edge, first-edge}
 
@@ -90,12 +92,13 @@ module _ (t : Part) (p : Vec3) (at : Regions) (words : List ℕ) where
   pub least-start : (i : ℕ) → ofBits binary64 0x7ff0_0000_0000_0000 ≡ leastSquare t p (inf false) (sidesAt t at words i i)
   least-start i = least-nil t p ∙ ap (leastSquare t p (inf false)) (sym (sides-none t at words i))
 
-  pub least-next : (i j r : ℕ) (x y : Float) → i ≤ j → j < length (edgeOrder at words) → x ≡ leastSquare t p (inf false) (sidesAt t at words i j)
-      → ItemAt t at words j r → y ≡ lesser x (sideSquare t p r) → y ≡ leastSquare t p (inf false) (sidesAt t at words i (j + 1))
-  least-next i j r x y l h ex item ey =
-      ey ∙ ap (λ (z : Float). lesser z (sideSquare t p r)) ex
-      ∙ ap (λ (k : ℕ). lesser (leastSquare t p (inf false) (sidesAt t at words i j)) (sideSquare t p k)) (item .side)
-      ∙ sym (least-more t p (inf false) (sidesAt t at words i j) (itemSide t (getD (edgeOrder at words) j 0)))
+  pub least-next : (i j : ℕ) (x y : Float) (q : Segment) → i ≤ j → j < length (edgeOrder at words) → x ≡ leastSquare t p (inf false) (sidesAt t at words i j)
+      → q ≡ sideSegment t (itemSide t (getD (edgeOrder at words) j 0)) → y ≡ lesser x (squareTo p q) → y ≡ leastSquare t p (inf false) (sidesAt t at words i (j + 1))
+  least-next i j x y q l h ex eq ey =
+      let r = itemSide t (getD (edgeOrder at words) j 0) in
+      ey ∙ ap (λ (z : Float). lesser z (squareTo p q)) ex
+      ∙ ap (lesser (leastSquare t p (inf false) (sidesAt t at words i j))) (ap (squareTo p) eq ∙ side-square t p r)
+      ∙ sym (least-more t p (inf false) (sidesAt t at words i j) r)
       ∙ ap (leastSquare t p (inf false)) (sym (sides-more t at words i j l h))
 
   pub least-end : (i j e : ℕ) (x r : Float) → j ≤ e → e ≤ j → x ≡ leastSquare t p (inf false) (sidesAt t at words i j) → r ≡ root x

@@ -11,6 +11,9 @@ use Rattle.list_groups.specs.Groups.{joined, unlessEmpty, passing, pairKey, sta
 use Rattle.list_groups.specs.Order.{Keyed, Grouped}
 use Rattle.file_part.specs.Part.{Part, partOf}
 use Rattle.solid_faces.specs.Faces.{facesOf}
+use Rattle.solid_segments.specs.Sides.{toOf}
+use Rattle.solid_distance.specs.declared.kept.Segment.{Segment}
+use Rattle.solid_distance.specs.Kept.{segmentOf, segmentAt}
 use Rattle.solid_edges.specs.Edges.{faceOfSide, faceBeyond, isEdge}
 use Rattle.scratch.specs.declared.regions.Regions.{Regions}
 use Rattle.scratch.specs.Standing.{Standing}
@@ -57,8 +60,16 @@ edgeOrder at words = part (at .sorted) (at .chain) words
 unfoldable pub sidesAt : Part → Regions → List ℕ → ℕ → ℕ → List ℕ
 sidesAt t at words i e = map (itemSide t) (part i e (edgeOrder at words))
 
--- all that a tour asks for
-pub record EdgesOrdered (s : List ℕ) (at : Regions) (words : List ℕ) (reals : List Float) : Type 0 where
+-- side s as a segment
+unfoldable pub sideSegment : Part → ℕ → Segment
+sideSegment t s = segmentOf (t .vertex s) (t .vertex (toOf t s))
+
+-- where the segment of the edge at place j is packed, so that a distance from the edges of a face reads them one after the other
+abbrev pub packedAt : Regions → ℕ → ℕ
+packedAt at j = at .free + 7 * j
+
+-- the edges are sorted, and those at the first k places are packed
+pub record OrderedTo (s : List ℕ) (at : Regions) (words : List ℕ) (reals : List Float) (k : ℕ) : Type 0 where
   pub standing : Standing s at words reals
   -- the shared segments are put
   pub edged : at .segments ≡ true
@@ -66,6 +77,14 @@ pub record EdgesOrdered (s : List ℕ) (at : Regions) (words : List ℕ) (reals 
   pub sides : (k : ℕ) → k < itemCount (partOf s) → getD words (at .items + k) 0 ≡ itemSide (partOf s) k
   pub keyed : Keyed (edgeKeys at reals) (itemKey (partOf s)) (itemCount (partOf s)) (facesOf (partOf s) * facesOf (partOf s))
   pub grouped : Grouped (itemKey (partOf s)) (itemCount (partOf s)) (facesOf (partOf s) * facesOf (partOf s)) (edgeOrder at words)
+  pub packed : (j : ℕ) → j < k → segmentAt reals (packedAt at j) ≡ sideSegment (partOf s) (itemSide (partOf s) (getD (edgeOrder at words) j 0))
+
+abbrev pub EdgesSorted : List ℕ → Regions → List ℕ → List Float → Type 0
+EdgesSorted s at words reals = OrderedTo s at words reals 0
+
+-- all that a tour asks for
+abbrev pub EdgesOrdered : List ℕ → Regions → List ℕ → List Float → Type 0
+EdgesOrdered s at words reals = OrderedTo s at words reals (itemCount (partOf s))
 
 -- how many items there are; nothing else changed
 pub record EdgesPut (s : List ℕ) (at : Regions) (words words′ : List ℕ) (reals reals′ : List Float) (r : ℕ) : Type 0 where
@@ -73,7 +92,7 @@ pub record EdgesPut (s : List ℕ) (at : Regions) (words words′ : List ℕ) (r
   pub few : r ≤ at .vertices
   pub ordered : EdgesOrdered s at words′ reals′
   pub words-kept : Outside 0 (at .items) (at .chain) words words′
-  pub reals-kept : Outside nan (at .directions) (at .free) reals reals′
+  pub reals-kept : Outside nan (at .directions) (at .reals) reals reals′
 
 -- ---- a tour of the edges of one face
 pub record Counted (t : Part) (edges : Edges) : Type 0 where

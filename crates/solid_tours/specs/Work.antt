@@ -1,7 +1,7 @@
 -- What the functions of this crate leave on the way. A reader may pass over it.
 use mathlib.Core.Path.{_≡_}
 use mathlib.Core.List.{List}
-use Prim.Native.Nat.{ℕ, _+_, _*_, _<_}
+use Prim.Native.Nat.{ℕ, _+_, _*_, _≤_, _<_}
 use lib.Ieee.{Float, nan}
 use lib.ListN.{length, getD}
 use Rattle.list_laws.specs.Region.{Outside}
@@ -12,6 +12,7 @@ use Rattle.solid_faces.specs.Faces.{facesOf}
 use Rattle.solid_edges.specs.Edges.{faceOfSide, faceBeyond, isEdge}
 use Rattle.scratch.specs.declared.regions.Regions.{Regions}
 use Rattle.solid_ranks.specs.Ranks.{rankOf}
+use Rattle.solid_tours.specs.Kept.{itemCount, OrderedTo, EdgesSorted}
 
 -- the keys of an edge under its own face, and under the face beyond
 unfoldable pub nearKey : Part → ℕ → ℕ
@@ -39,3 +40,16 @@ pub record AllPut (s : List ℕ) (at : Regions) (words words′ : List ℕ) (rea
   pub put : EdgesTo (partOf s) at (partOf s .vertices) r words′ reals′
   pub words-kept : Outside 0 (at .items) (at .sorted) words words′
   pub reals-kept : Outside nan (at .directions) (at .free) reals reals′
+
+-- they are sorted: the same as `EdgesPut` but that no edge is packed yet
+pub record SortedPut (s : List ℕ) (at : Regions) (words words′ : List ℕ) (reals reals′ : List Float) (r : ℕ) : Type 0 where
+  pub count : r ≡ itemCount (partOf s)
+  pub few : r ≤ at .vertices
+  pub sorted : EdgesSorted s at words′ reals′
+  pub words-kept : Outside 0 (at .items) (at .chain) words words′
+  pub reals-kept : Outside nan (at .directions) (at .free) reals reals′
+
+-- the edges at the first k places are packed
+pub record PackedPut (s : List ℕ) (at : Regions) (words : List ℕ) (reals reals′ : List Float) (k : ℕ) : Type 0 where
+  pub ordered : OrderedTo s at words reals′ k
+  pub kept : Outside nan (at .free) (at .reals) reals reals′

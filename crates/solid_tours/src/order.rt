@@ -11,7 +11,8 @@ ghost use Rattle.solid_edges.specs.Edges.{isEdge};
 ghost use Rattle.scratch.specs.Standing.{Standing};
 ghost use Rattle.solid_ranks.specs.Kept.{Ranked};
 ghost use Rattle.solid_tours.specs.Kept.{EdgesPut};
-ghost use Rattle.solid_tours.specs.Work.{EdgePut, AllPut};
+ghost use Rattle.solid_tours.specs.Work.{EdgePut, AllPut, SortedPut};
+use crate::pack::pack_edges;
 use list_cells::cell;
 use list_groups::sort_items;
 use scratch::regions::Regions;
@@ -82,7 +83,22 @@ fn put_edges(file: &[u8], words: &mut [u32], reals: &mut [f64], at: Regions, n: 
     m
 }
 
-// Sorts the edges of a part of n faces by face and by the face that they lead to, each under both its faces. How many items there are.
+// Sorts them by face and by the face that they lead to. How many items there are.
+fn sort_edges(file: &[u8], words: &mut [u32], reals: &mut [f64], at: Regions, n: usize) -> usize
+    requires { ⌜ Standing (now file) at (now words) (now reals) ⌝ ∗ ⌜ Ranked (partOf (now file)) at (now words) ⌝ ∗ ⌜ n ≡ facesOf (partOf (now file)) ⌝ ∗ ⌜ at .segments ≡ true ⌝ }
+    ensures { λ r. ⌜ SortedPut (now (file .entry)) at (now (words .entry)) (now (words .exit)) (now (reals .entry)) (now (reals .exit)) r ⌝ }
+{
+    let m = put_edges(file, words, reals, at, n);
+    let sorted = at.sorted;
+    let end = at.chain;
+    let keys = at.directions;
+    let keys_end = at.free;
+    sort_items(&reals[keys..keys_end], &mut words[sorted..end], m);
+    m
+}
+
+// Sorts the edges of a part of n faces by face and by the face that they lead to, each under both its faces, and packs them in that order. How many
+// items there are.
 pub fn order_edges(
     file: &[u8],
     words: &mut [u32],
@@ -93,11 +109,7 @@ pub fn order_edges(
     requires { ⌜ Standing (now file) at (now words) (now reals) ⌝ ∗ ⌜ Ranked (partOf (now file)) at (now words) ⌝ ∗ ⌜ n ≡ facesOf (partOf (now file)) ⌝ ∗ ⌜ at .segments ≡ true ⌝ }
     ensures { λ r. ⌜ EdgesPut (now (file .entry)) at (now (words .entry)) (now (words .exit)) (now (reals .entry)) (now (reals .exit)) r ⌝ }
 {
-    let m = put_edges(file, words, reals, at, n);
-    let sorted = at.sorted;
-    let end = at.chain;
-    let keys = at.directions;
-    let keys_end = at.free;
-    sort_items(&reals[keys..keys_end], &mut words[sorted..end], m);
+    let m = sort_edges(file, words, reals, at, n);
+    pack_edges(file, &words[..], reals, at, m);
     m
 }

@@ -2,19 +2,21 @@
 ghost use mathlib.Core.Path.{_≡_};
 ghost use Prim.Native.Nat.{_+_, _*_, _≤_, _<_};
 ghost use lib.IntN.{pos};
-ghost use lib.ListN.{getD};
+ghost use lib.ListN.{length, getD};
 ghost use lib.Ieee.{binary64, ofInt};
+ghost use Rattle.num_float.specs.Order.{lesser};
 ghost use Rattle.file_part.specs.Part.{partOf};
 ghost use Rattle.solid_faces.specs.Faces.{facesOf};
+ghost use Rattle.solid_distance.specs.Kept.{squareTo, segmentAt};
 ghost use Rattle.solid_edges.specs.Distance.{edgeDistance, betweenDistance};
 ghost use Rattle.solid_tours.specs.Tours.{leastDistance};
-ghost use Rattle.solid_tours.specs.Kept.{itemCount, itemKey, keyStart, edgeOrder, sidesAt, EdgesOrdered, Counted, FacePlaces, RestPlaces, GroupPlaces, NextGroup, ItemAt};
+ghost use Rattle.solid_tours.specs.Kept.{itemCount, itemKey, keyStart, edgeOrder, sidesAt, EdgesSorted, EdgesOrdered, Counted, FacePlaces, RestPlaces, GroupPlaces, NextGroup, ItemAt};
 use crate::order::edge_key;
 use list_cells::cell;
 use list_groups::group_end;
 use math::Vec3;
 use scratch::regions::Regions;
-use solid_edges::distance::nearer;
+use solid_distance::kept::segment_at;
 use solid_edges::edge::leads_to;
 
 // The sorted edges of a part: where they stand, and how many faces and items there are.
@@ -40,7 +42,7 @@ pub struct Group {
 
 // The edge at place j.
 pub fn item_at(file: &[u8], words: &[u32], reals: &[f64], at: Regions, j: usize) -> usize
-    requires { ⌜ EdgesOrdered (now file) at (now words) (now reals) ⌝ ∗ ⌜ j < itemCount (partOf (now file)) ⌝ }
+    requires { ⌜ EdgesSorted (now file) at (now words) (now reals) ⌝ ∗ ⌜ j < itemCount (partOf (now file)) ⌝ }
     ensures { λ r. ⌜ ItemAt (partOf (now (file .entry))) at (now (words .entry)) j r ⌝ }
 {
     let sorted = at.sorted;
@@ -91,7 +93,19 @@ pub fn face_places(file: &[u8], words: &[u32], reals: &[f64], edges: Edges, f: u
     }
 }
 
-// The least distance of point p from the edges at these places.
+// The lesser of the least squared distance of point p yet and that from the segment that is kept from `place` on.
+fn nearer(reals: &[f64], place: usize, p: Vec3, least: f64) -> f64
+    requires { ⌜ place + 7 ≤ length (now reals) ⌝ }
+    ensures { λ r. ⌜ r ≡ lesser least (squareTo p (segmentAt (now (reals .entry)) place)) ⌝ }
+{
+    let square = segment_at(reals, place).square_to(p);
+    if square < least {
+        return square;
+    }
+    least
+}
+
+// The least distance of point p from the edges at these places: one root of the least square gives the same f64.
 fn least_distance(
     file: &[u8],
     words: &[u32],
@@ -103,23 +117,11 @@ fn least_distance(
     requires { ⌜ EdgesOrdered (now file) at (now words) (now reals) ⌝ ∗ ⌜ places .start ≤ places .end ⌝ ∗ ⌜ places .end ≤ itemCount (partOf (now file)) ⌝ }
     ensures { λ r. ⌜ r ≡ leastDistance (partOf (now (file .entry))) p (sidesAt (partOf (now (file .entry))) at (now (words .entry)) (places .start) (places .end)) ⌝ }
 {
-    let sides = at.sides;
-    let items = at.items;
-    let faces = at.faces;
-    let faces_end = at.readings;
     let end = places.end;
     let mut least = f64::from_bits(0x7ff0_0000_0000_0000);
     let mut j = places.start;
     while j < end {
-        let s = item_at(file, words, reals, at, j);
-        least = nearer(
-            file,
-            &words[sides..items],
-            &words[faces..faces_end],
-            p,
-            s,
-            least,
-        );
+        least = nearer(reals, at.free + 7 * j, p, least);
         j += 1;
     }
     num_root::sqrt(least)

@@ -7,7 +7,7 @@ mod material;
 pub mod math;
 pub mod measures;
 mod part;
-mod sine;
+pub mod sine;
 pub mod solid;
 mod text;
 

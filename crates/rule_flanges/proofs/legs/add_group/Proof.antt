@@ -1,5 +1,6 @@
 -- `rule_flanges::legs::add_group` meets its contract: one leg or none, with the first segment of the group.
 use mathlib.Core.Path.{sym, _∙_}
+use Rattle.solid_tours.proofs.PackLaws.{edges-sorted}
 use Rattle.rule_flanges.proofs.LegLaws.{not-true, not-false, group-none, group-one}
 use Rattle.rule_flanges.proofs.WalkLaws.{first-line}
 use native.Mathlib.Omega.{arith}
@@ -13,7 +14,7 @@ returns : tie.Need-returns
 returns c = group-none _ _ _ (c .before .before .before .before .before .before .pre .1 .1 .1 .0) _ _ _ _ _ (sym (c .before .runs-on .ensures) ∙ not-true _ (c .if1 .taken))
 
 item-at-requires : tie.Need-item-at-requires
-item-at-requires c κs = (c .before .before .before .before .before .before .before .pre .0 .ordered, omega (arith, c .before .before .before .before .before .before .before .pre .1 .0 .some, c .before .before .before .before .before .before .before .pre .1 .0 .inside))
+item-at-requires c κs = (edges-sorted _ _ _ (c .before .before .before .before .before .before .before .pre .0 .ordered), omega (arith, c .before .before .before .before .before .before .before .pre .1 .0 .some, c .before .before .before .before .before .before .before .pre .1 .0 .inside))
 
 add-leg-requires : tie.Need-add-leg-requires
 add-leg-requires c κs = (c .before .before .before .before .before .before .before .before .before .pre .0 .ordered .standing, (c .before .before .before .before .before .before .before .before .before .pre .1 .1 .1 .0, (record { bend = c .before .before .before .before .before .before .before .before .before .pre .1 .0 .face-below; round = c .before .before .before .before .before .before .before .before .before .pre .1 .1 .0; face = c .before .before .before .before .before .before .before .before .before .pre .1 .0 .other-below; line = c .before .item-at .ensures .below }, c .before .before .before .before .before .before .before .before .before .pre .1 .1 .1 .1)))

@@ -5,21 +5,20 @@ use mathlib.Core.Bool.{false}
 use Prim.Native.Nat.{_-_, _≤_}
 use lib.Ieee.{inf, nanBits}
 use Rattle.file_part.specs.Part.{partOf}
-use Rattle.scratch.proofs.StandingLaws.{placed-vertices}
 use Rattle.solid_tours.specs.Tours.{leastSquare}
 use Rattle.solid_tours.specs.Kept.{sidesAt}
-use Rattle.solid_tours.proofs.PutLaws.{standing-lent}
 use Rattle.solid_tours.proofs.PlaceLaws.{most}
+use Rattle.solid_tours.proofs.PackLaws.{packed-inside}
 use Rattle.solid_tours.proofs.TourLaws.{order-long, least-start, least-next, least-end}
 use native.Mathlib.Omega.{arith}
 use Rattle.solid_tours.proofs.tour.least_distance.Statement.{statement}
 use Rattle.solid_tours.proofs.tour.least_distance.Tie as tie
 
 abbrev Inv-loop : tie.InvT-loop
-Inv-loop file words reals at p sides items faces faces_end e least₀ i least j = (i ≤ j) × (j ≤ e) × (least ≡ leastSquare (partOf file) p (inf false) (sidesAt (partOf file) at words i j))
+Inv-loop file words reals at p e least₀ i least j = (i ≤ j) × (j ≤ e) × (least ≡ leastSquare (partOf file) p (inf false) (sidesAt (partOf file) at words i j))
 
 abbrev μ-loop : tie.MeasureT-loop
-μ-loop file words reals at p sides items faces faces_end e least₀ i least j = e - j
+μ-loop file words reals at p e least₀ i least j = e - j
 
 float-from-bits-least : tie.Need-float-from-bits-least Inv-loop μ-loop
 unfolding nanBits
@@ -28,44 +27,23 @@ float-from-bits-least c = search needs
 loop-holds : tie.Need-loop-holds Inv-loop μ-loop
 loop-holds c = (omega arith, c .before .before .before .pre .1 .0, least-start (partOf (c .before .before .before .args .file .now)) (c .before .before .before .args .p) (c .before .before .before .args .at) (c .before .before .before .args .words .now) (c .before .before .before .args .places .start))
 
-item-at-requires : tie.Need-item-at-requires Inv-loop μ-loop
-item-at-requires c κs = (c .before .before .before .before .before .pre .0, omega (arith, c .loop-test .taken, c .before .before .before .before .before .pre .1 .1))
-
 mul-nearer : tie.Need-mul-nearer Inv-loop μ-loop
-mul-nearer c = omega (arith, c .before .before .before .before .before .before .pre .0 .standing .placed .laid, c .before .before .before .before .before .before .pre .0 .standing .words-room, c .before .before .before .before .before .before .pre .0 .standing .reals-room, most _ _ _ _ (c .before .before .before .before .before .before .pre .0))
+mul-nearer c = omega (arith, c .loop-test .taken, c .before .before .before .before .before .pre .1 .1, c .before .before .before .before .before .pre .0 .standing .placed .laid, c .before .before .before .before .before .pre .0 .standing .words-room, c .before .before .before .before .before .pre .0 .standing .reals-room, most _ _ _ _ (c .before .before .before .before .before .pre .0))
 
-sub-nearer : tie.Need-sub-nearer Inv-loop μ-loop
-sub-nearer c = omega (arith, c .before .before .before .before .before .before .pre .0 .standing .placed .laid, c .before .before .before .before .before .before .pre .0 .standing .words-room, c .before .before .before .before .before .before .pre .0 .standing .reals-room, most _ _ _ _ (c .before .before .before .before .before .before .pre .0))
-
-part-nearer-start : tie.Need-part-nearer-start Inv-loop μ-loop
-part-nearer-start c = omega (arith, c .before .before .before .before .before .before .pre .0 .standing .placed .laid, c .before .before .before .before .before .before .pre .0 .standing .words-room, c .before .before .before .before .before .before .pre .0 .standing .reals-room, most _ _ _ _ (c .before .before .before .before .before .before .pre .0))
-
-part-nearer-end : tie.Need-part-nearer-end Inv-loop μ-loop
-part-nearer-end c = omega (arith, c .before .before .before .before .before .before .pre .0 .standing .placed .laid, c .before .before .before .before .before .before .pre .0 .standing .words-room, c .before .before .before .before .before .before .pre .0 .standing .reals-room, most _ _ _ _ (c .before .before .before .before .before .before .pre .0))
-
-mul-nearer-2 : tie.Need-mul-nearer-2 Inv-loop μ-loop
-mul-nearer-2 c = omega (arith, c .before .before .before .before .before .before .before .pre .0 .standing .placed .laid, c .before .before .before .before .before .before .before .pre .0 .standing .words-room, c .before .before .before .before .before .before .before .pre .0 .standing .reals-room, most _ _ _ _ (c .before .before .before .before .before .before .before .pre .0))
-
-sub-nearer-2 : tie.Need-sub-nearer-2 Inv-loop μ-loop
-sub-nearer-2 c = omega (arith, c .before .before .before .before .before .before .before .pre .0 .standing .placed .laid, c .before .before .before .before .before .before .before .pre .0 .standing .words-room, c .before .before .before .before .before .before .before .pre .0 .standing .reals-room, most _ _ _ _ (c .before .before .before .before .before .before .before .pre .0))
-
-part-nearer-start-2 : tie.Need-part-nearer-start-2 Inv-loop μ-loop
-part-nearer-start-2 c = omega (arith, c .before .before .before .before .before .before .before .pre .0 .standing .placed .laid, c .before .before .before .before .before .before .before .pre .0 .standing .words-room, c .before .before .before .before .before .before .before .pre .0 .standing .reals-room, most _ _ _ _ (c .before .before .before .before .before .before .before .pre .0))
-
-part-nearer-end-2 : tie.Need-part-nearer-end-2 Inv-loop μ-loop
-part-nearer-end-2 c = omega (arith, c .before .before .before .before .before .before .before .pre .0 .standing .placed .laid, c .before .before .before .before .before .before .before .pre .0 .standing .words-room, c .before .before .before .before .before .before .before .pre .0 .standing .reals-room, most _ _ _ _ (c .before .before .before .before .before .before .before .pre .0))
+add-nearer : tie.Need-add-nearer Inv-loop μ-loop
+add-nearer c = omega (arith, c .before .loop-test .taken, c .before .before .before .before .before .before .pre .1 .1, c .before .before .before .before .before .before .pre .0 .standing .placed .laid, c .before .before .before .before .before .before .pre .0 .standing .words-room, c .before .before .before .before .before .before .pre .0 .standing .reals-room, most _ _ _ _ (c .before .before .before .before .before .before .pre .0))
 
 nearer-requires : tie.Need-nearer-requires Inv-loop μ-loop
-nearer-requires c κs = (standing-lent _ _ _ _ (c .before .before .before .before .before .before .before .before .pre .0 .standing) (c .before .before .before .before .before .before .before .before .pre .0 .edged), omega (arith, c .before .before .item-at .ensures .below, placed-vertices _ _ (c .before .before .before .before .before .before .before .before .pre .0 .standing .placed), c .before .before .before .before .before .before .before .before .pre .0 .standing .placed .vertices))
+nearer-requires c κs = packed-inside _ _ _ _ (c .before .before .before .before .before .before .pre .0) _ (omega (arith, c .before .loop-test .taken, c .before .before .before .before .before .before .pre .1 .1))
 
 add-j : tie.Need-add-j Inv-loop μ-loop
-add-j c = omega (arith, c .before .before .before .before .loop-test .taken, c .before .before .before .before .before .before .before .before .before .pre .1 .1, c .before .before .before .before .before .before .before .before .before .pre .0 .standing .placed .laid, c .before .before .before .before .before .before .before .before .before .pre .0 .standing .words-room, c .before .before .before .before .before .before .before .before .before .pre .0 .standing .reals-room, most _ _ _ _ (c .before .before .before .before .before .before .before .before .before .pre .0))
+add-j c = omega (arith, c .before .before .loop-test .taken, c .before .before .before .before .before .before .before .pre .1 .1, c .before .before .before .before .before .before .before .pre .0 .standing .placed .laid, c .before .before .before .before .before .before .before .pre .0 .standing .words-room, c .before .before .before .before .before .before .before .pre .0 .standing .reals-room, most _ _ _ _ (c .before .before .before .before .before .before .before .pre .0))
 
 loop-less : tie.Need-loop-less Inv-loop μ-loop
-loop-less c = omega (arith, c .before .before .before .before .loop-test .taken)
+loop-less c = omega (arith, c .before .before .loop-test .taken)
 
 loop-again : tie.Need-loop-again Inv-loop μ-loop
-loop-again c = (omega (arith, c .before .before .before .before .before .loop .inv .0), omega (arith, c .before .before .before .before .loop-test .taken), least-next (partOf (c .before .before .before .before .before .before .before .before .before .args .file .now)) (c .before .before .before .before .before .before .before .before .before .args .p) (c .before .before .before .before .before .before .before .before .before .args .at) (c .before .before .before .before .before .before .before .before .before .args .words .now) _ _ _ _ _ (c .before .before .before .before .before .loop .inv .0) (omega (arith, c .before .before .before .before .loop-test .taken, c .before .before .before .before .before .before .before .before .before .pre .1 .1, order-long _ _ _ _ (c .before .before .before .before .before .before .before .before .before .pre .0))) (c .before .before .before .before .before .loop .inv .2) (c .before .before .before .item-at .ensures) (c .nearer .ensures))
+loop-again c = (omega (arith, c .before .before .before .loop .inv .0), omega (arith, c .before .before .loop-test .taken), least-next (partOf (c .before .before .before .before .before .before .before .args .file .now)) (c .before .before .before .before .before .before .before .args .p) (c .before .before .before .before .before .before .before .args .at) (c .before .before .before .before .before .before .before .args .words .now) _ _ _ _ _ (c .before .before .before .loop .inv .0) (omega (arith, c .before .before .loop-test .taken, c .before .before .before .before .before .before .before .pre .1 .1, order-long _ _ _ _ (c .before .before .before .before .before .before .before .pre .0))) (c .before .before .before .loop .inv .2) (c .before .before .before .before .before .before .before .pre .0 .packed _ (omega (arith, c .before .before .loop-test .taken, c .before .before .before .before .before .before .before .pre .1 .1))) (c .nearer .ensures))
 
 sqrt-requires : tie.Need-sqrt-requires Inv-loop μ-loop
 sqrt-requires c κs = tt
@@ -81,15 +59,8 @@ least-distance-spec =
     μ-loop
     float-from-bits-least
     loop-holds
-    item-at-requires
     mul-nearer
-    sub-nearer
-    part-nearer-start
-    part-nearer-end
-    mul-nearer-2
-    sub-nearer-2
-    part-nearer-start-2
-    part-nearer-end-2
+    add-nearer
     nearer-requires
     add-j
     loop-less

@@ -2,13 +2,14 @@
 use Rattle.scratch.proofs.StandingLaws.{placed-vertices}
 use Rattle.solid_tours.proofs.PutLaws.{standing-lent}
 use Rattle.solid_tours.proofs.PlaceLaws.{most}
+use Rattle.solid_tours.proofs.PackLaws.{edges-sorted}
 use Rattle.solid_tours.proofs.TourLaws.{order-numbered, rest-inside, leads, next-is}
 use native.Mathlib.Omega.{arith}
 use Rattle.solid_tours.proofs.tour.next_group.Statement.{statement}
 use Rattle.solid_tours.proofs.tour.next_group.Tie as tie
 
 item-at-requires : tie.Need-item-at-requires
-item-at-requires c κs = (c .before .before .before .pre .0, omega (arith, c .before .before .before .pre .1 .1 .1, rest-inside _ _ _ _ (c .before .before .before .pre .0) _ (c .before .before .before .pre .1 .0) _ (c .before .before .before .pre .1 .1 .0) (c .before .before .before .pre .1 .1 .1)))
+item-at-requires c κs = (edges-sorted _ _ _ (c .before .before .before .pre .0), omega (arith, c .before .before .before .pre .1 .1 .1, rest-inside _ _ _ _ (c .before .before .before .pre .0) _ (c .before .before .before .pre .1 .0) _ (c .before .before .before .pre .1 .1 .0) (c .before .before .before .pre .1 .1 .1)))
 
 mul-leads-to : tie.Need-mul-leads-to
 mul-leads-to c = omega (arith, c .before .before .before .before .pre .0 .standing .placed .laid, c .before .before .before .before .pre .0 .standing .words-room, c .before .before .before .before .pre .0 .standing .reals-room, most _ _ _ _ (c .before .before .before .before .pre .0))

@@ -16,6 +16,14 @@ pub fn arranged(random: &mut Random, mesh: &mut Mesh) {
         3 if random.below(2) == 0 => other_kind(random, mesh),
         _ => {}
     }
+    ordered(random, mesh);
+    if random.below(2) == 0 {
+        moved(random, mesh);
+    }
+}
+
+/// Which leaves every polygon where it is: in another order, begun elsewhere, other ids.
+pub fn ordered(random: &mut Random, mesh: &mut Mesh) {
     if random.below(2) == 0 {
         shuffle(random, &mut mesh.polygons);
     }
@@ -27,9 +35,6 @@ pub fn arranged(random: &mut Random, mesh: &mut Mesh) {
     }
     if random.below(3) != 0 {
         ids::rename(random, mesh);
-    }
-    if random.below(2) == 0 {
-        moved(random, mesh);
     }
 }
 

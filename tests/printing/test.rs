@@ -1,0 +1,175 @@
+//! The faults of printing against the Rust's own list before it merges them, in order: severity, rule, text, count and faces; the height; and refusals 1
+//! to 10. Takes generated files from standard input; with --quick there are fewer of the others.
+#[path = "../rules/arrange.rs"]
+mod arrange;
+#[path = "../rays/bores.rs"]
+mod bores;
+#[path = "../body/change.rs"]
+mod change;
+#[path = "../rules/compare.rs"]
+mod compare;
+#[path = "../rules/counts.rs"]
+mod counts;
+#[path = "../rules/dial.rs"]
+mod dial;
+#[path = "../part/field.rs"]
+mod field;
+#[path = "../rules/frame.rs"]
+mod frame;
+#[path = "../lib/gablemadder.rs"]
+mod gablemadder;
+#[path = "../rules/ids.rs"]
+mod ids;
+#[path = "../body/layout.rs"]
+mod layout;
+#[path = "../lib/lent.rs"]
+mod lent;
+#[path = "../body/mesh.rs"]
+mod mesh;
+#[path = "../lib/random.rs"]
+mod random;
+#[path = "../body/regions.rs"]
+mod regions;
+#[path = "../rules/rows.rs"]
+mod rows;
+#[path = "../part/sample.rs"]
+mod sample;
+#[path = "../body/scratch.rs"]
+mod scratch;
+#[path = "../body/shapes.rs"]
+mod shapes;
+#[path = "../lib/stream.rs"]
+mod stream;
+#[path = "../lib/tally.rs"]
+mod tally;
+#[path = "../machining/voxels.rs"]
+#[allow(dead_code)]
+mod voxels;
+#[path = "../rays/walls.rs"]
+mod walls;
+#[path = "../rules/wanted.rs"]
+mod wanted;
+
+mod dials;
+mod fit;
+mod floors;
+mod hollows;
+mod jobs;
+mod over;
+mod seen;
+mod shells;
+mod steps;
+mod undersides;
+mod ups;
+
+use compare::Compare;
+use fit::Fit;
+use mesh::Mesh;
+use random::Random;
+use seen::Printing;
+use shapes::pick;
+
+fn main() {
+    frame::run::<Printing>("printing", 43, own, changed)
+}
+
+fn own(c: &mut Compare<Printing>, quick: bool) {
+    let (shapes, dials, rounds) = if quick { (1_500, 200, 1) } else { (45_000, 12_000, 2) };
+    own_shapes(c, shapes);
+    every_limit(c, if quick { 90 } else { 1 });
+    own_dials(c, dials);
+    many_faults(c, rounds);
+}
+
+/// With another job, one at a limit of the part, or another shape.
+fn changed(random: &mut Random, mesh: &Mesh) -> Mesh {
+    let mut copy = if random.below(6) == 0 { change::changed(random, mesh) } else { mesh.clone() };
+    if random.below(3) == 0 {
+        copy.job = jobs::draw(random);
+    }
+    match random.below(4) {
+        0 => arrange::arranged(random, &mut copy),
+        1 => arrange::ordered(random, &mut copy),
+        _ => {}
+    }
+    if random.below(4) != 0 {
+        let what = pick(random, &fit::ALL);
+        fit::fitted(random, &mut copy, what);
+    }
+    copy
+}
+
+fn draw(random: &mut Random) -> Mesh {
+    let kind = random.below(24);
+    let mut mesh = match kind {
+        0..=2 => floors::draw(random),
+        3 | 4 => floors::flat(random),
+        5 | 6 => return over::plate(random),
+        7..=9 => return over::small(random),
+        10 | 11 => return over::sums(random),
+        12..=14 => return over::bored(random),
+        15..=18 => return hollows::draw(random),
+        19 => voxels::draw(random),
+        20 => walls::draw(random),
+        21 if random.below(8) == 0 => Mesh::empty(),
+        21 => shapes::draw(random),
+        _ => {
+            let mut mesh = Mesh::empty();
+            bores::bore(random, &mut mesh);
+            mesh
+        }
+    };
+    mesh.job = jobs::draw(random);
+    if random.below(2) == 0 {
+        fit::fitted(random, &mut mesh, if kind < 21 { Fit::Wall } else { Fit::Hole });
+    }
+    mesh
+}
+
+fn own_shapes(c: &mut Compare<Printing>, count: u64) {
+    let mut random = Random(46);
+    for number in 0..count {
+        let mut mesh = draw(&mut random);
+        if random.below(3) == 0 {
+            ups::quarter_turns(&mut random, &mut mesh);
+        }
+        c.check(&mesh.bytes(), || format!("shape {number}"));
+        let changed = changed(&mut random, &mesh);
+        c.check(&changed.bytes(), || format!("shape {number}, changed"));
+    }
+}
+
+/// For the limits of overhangs, of so many tenths of a degree each: faces that lean by their sine, and by it and the slack, and a few f64 beside.
+fn every_limit(c: &mut Compare<Printing>, each: usize) {
+    let mut random = Random(48);
+    for tenths in (0..=900).step_by(each) {
+        for slack in [false, true] {
+            let what = if slack { "lean of the sine and the slack, on the limit" } else { "lean of the sine, on the limit" };
+            let before = c.counts.count(what);
+            for steps in [0, 0, -1, 1, pick(&mut random, &[-2, 2, 3])] {
+                let mesh = over::at_limit(&mut random, tenths, slack, steps);
+                c.check(&mesh.bytes(), || format!("limit {tenths}, {steps} beside"));
+            }
+            c.counts.add(seen::TENTHS, u64::from(c.counts.count(what) > before));
+        }
+    }
+}
+
+/// Parts one f64 to each side of a change.
+fn own_dials(c: &mut Compare<Printing>, count: u64) {
+    let mut random = Random(47);
+    for number in 0..count {
+        let mesh = draw(&mut random);
+        dials::draw(&mut random, mesh).check::<_, dials::Found>(c, number);
+    }
+}
+
+/// About as many as there are rows at the most, and more.
+fn many_faults(c: &mut Compare<Printing>, rounds: u64) {
+    let mut random = Random(49);
+    for _ in 0..rounds {
+        for count in [2047, 2048, 2049, 4096] {
+            c.check(&hollows::many(&mut random, count).bytes(), || format!("{count} hollows"));
+        }
+    }
+}
