@@ -6,7 +6,9 @@ use crate::mesh::Mesh;
 use crate::part::Part;
 use crate::random::Random;
 use crate::shapes::pick;
-use crate::{bores, brackets, change, damage, file, fit, floors, hollows, ids, jobs, machining, many, over, shapes, sheet_jobs, sheet_limits, voxels, walls};
+use crate::{
+    bores, brackets, change, damage, file, fit, floors, hollows, ids, jobs, machining, many, over, shapes, sheet_jobs, sheet_limits, voxels, walls,
+};
 
 /// As the generator draws it, or as the tests of machining, sheet metal and printing do.
 fn job(random: &mut Random) -> Vec<u8> {
