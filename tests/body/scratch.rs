@@ -90,6 +90,12 @@ impl<T: Cell> Scratch<T> {
         self.same(0..MARGIN) && self.same(MARGIN + n..self.cells.len())
     }
 
+    /// All of the lent cells are zero, and both margins as they were.
+    pub fn is_zero(&self) -> bool {
+        let lent = &self.cells[MARGIN..self.cells.len() - MARGIN];
+        lent.iter().all(|c| c.same(T::from_bits(0))) && self.margins_are_unchanged()
+    }
+
     pub fn margins_are_unchanged(&self) -> bool {
         self.is_unchanged_past(self.cells.len() - 2 * MARGIN)
     }

@@ -15,6 +15,21 @@ mod c {
         pub fn gablemadder_sine_entry(tenths: u32) -> u64;
         pub fn gablemadder_sine(tenths: u32) -> f64;
         pub fn gablemadder_decimal(x: f64, places: u32, out: *mut u8, len: usize, written: *mut usize) -> u32;
+        pub fn gablemadder_check(
+            file: *const u8,
+            len: usize,
+            words: *mut u32,
+            words_len: usize,
+            reals: *mut f64,
+            reals_len: usize,
+            cells: *mut u32,
+            cells_len: usize,
+            numbers: *mut f64,
+            numbers_len: usize,
+            report: *mut u8,
+            report_len: usize,
+            written: *mut usize,
+        ) -> u32;
         pub fn gablemadder_put_bytes(out: *mut u8, len: usize, at: usize, s: *const u8, n: usize) -> usize;
         pub fn gablemadder_put_number(out: *mut u8, len: usize, at: usize, n: u64) -> usize;
         pub fn gablemadder_put_hex(out: *mut u8, len: usize, at: usize, bits: u64) -> usize;
@@ -184,6 +199,13 @@ pub fn decimal(x: f64, places: u32, out: &mut [u8]) -> Result<usize, u32> {
         0 => Ok(written),
         refusal => Err(refusal),
     }
+}
+
+/// 0, the report in the first bytes of `report` and their number in `written`; or the refusal from 1 to 12.
+pub fn check(file: &[u8], words: &mut [u32], reals: &mut [f64], cells: &mut [u32], numbers: &mut [f64], report: &mut [u8], written: &mut usize) -> u32 {
+    let (w, r, c, n, o) = (words.as_mut_ptr(), reals.as_mut_ptr(), cells.as_mut_ptr(), numbers.as_mut_ptr(), report.as_mut_ptr());
+    let (words, reals, cells, numbers) = (words.len(), reals.len(), cells.len(), numbers.len());
+    unsafe { c::gablemadder_check(file.as_ptr(), file.len(), w, words, r, reals, c, cells, n, numbers, o, report.len(), written) }
 }
 
 pub fn put_bytes(out: &mut [u8], at: usize, s: &[u8]) -> usize {

@@ -40,8 +40,8 @@ def frames(stream):
     return found
 
 
-def run(program, stream):
-    return frames(subprocess.run([os.path.join(OUT, program), "--batch"], input=stream, capture_output=True, check=True).stdout)
+def run(program, stream, options=()):
+    return frames(subprocess.run([os.path.join(OUT, program), "--batch", *options], input=stream, capture_output=True, check=True).stdout)
 
 
 def framed(files):

@@ -21,7 +21,7 @@ fn cell(number: usize, x: f64, y: f64) -> Cell {
     }
 }
 
-fn with_cells(nx: usize, ny: usize) -> (String, Part) {
+pub fn with_cells(nx: usize, ny: usize) -> (String, Part) {
     let (xs, ys) = (cuts(&vec![WIDTH; nx]), cuts(&vec![WIDTH; ny]));
     let cells: Vec<Cell> = (0..nx * ny).map(|k| cell(k, xs[k / ny], ys[k % ny])).collect();
     let mut part = Part::default();
@@ -34,7 +34,7 @@ fn with_cells(nx: usize, ny: usize) -> (String, Part) {
 }
 
 /// So many closed hollows in a block, with thin walls between them; each is a face.
-fn with_hollows(count: usize) -> (String, Part) {
+pub fn with_hollows(count: usize) -> (String, Part) {
     let mut part = Part::default();
     let rows = count.div_ceil(20) as f64;
     part.block(1, [0.0; 3], [40.3, 2.0 * rows + 0.3, 3.0]);

@@ -11,16 +11,15 @@ const THICK: f64 = 2.0;
 const WIDTH: f64 = 12.0;
 
 /// A strip through so many bends, its flat pieces so many cells wide, of which some have a hole.
-struct Plan {
-    name: &'static str,
-    bends: usize,
-    cells: usize,
-    holes: usize,
-    slots: bool,
+pub struct Plan {
+    pub bends: usize,
+    pub cells: usize,
+    pub holes: usize,
+    pub slots: bool,
 }
 
 impl Plan {
-    fn file(&self) -> (String, Vec<u8>) {
+    pub fn file(&self) -> Vec<u8> {
         let mut runs = vec![Run::Straight(WIDTH)];
         for k in 0..self.bends {
             runs.push(Run::Bend(1.5, 0.25, 4, k % 2 == 0));
@@ -41,21 +40,21 @@ impl Plan {
             Cell::Through(Ring::circle((x, 6.0), radius, 32))
         });
         let material = Some(Material { class: 0, min_wall: 1.0, bend_ratio: Some(1000), name: b"Stainless 304".to_vec() });
-        (self.name.into(), file::bytes(&part, &Job { material, ..Job::defaults(SHEET) }))
+        file::bytes(&part, &Job { material, ..Job::defaults(SHEET) })
     }
 }
 
 pub fn all() -> Vec<(String, Vec<u8>)> {
     let plans = [
-        Plan { name: "a plate with 4 holes", bends: 0, cells: 4, holes: 4, slots: false },
-        Plan { name: "a bracket of 2 bends with 3 holes", bends: 2, cells: 3, holes: 3, slots: false },
-        Plan { name: "a plate with 16 holes", bends: 0, cells: 16, holes: 16, slots: false },
-        Plan { name: "a bracket of 4 bends with 10 holes", bends: 4, cells: 6, holes: 10, slots: false },
-        Plan { name: "a plate with 64 holes", bends: 0, cells: 64, holes: 64, slots: false },
-        Plan { name: "a bracket of 6 bends with 40 holes", bends: 6, cells: 20, holes: 40, slots: false },
-        Plan { name: "a cover of 1 bend with 5 slots", bends: 1, cells: 5, holes: 5, slots: true },
-        Plan { name: "a cover of 2 bends with 20 slots", bends: 2, cells: 10, holes: 20, slots: true },
-        Plan { name: "a cover of 2 bends with 82 slots", bends: 2, cells: 41, holes: 82, slots: true },
+        ("a plate with 4 holes", Plan { bends: 0, cells: 4, holes: 4, slots: false }),
+        ("a bracket of 2 bends with 3 holes", Plan { bends: 2, cells: 3, holes: 3, slots: false }),
+        ("a plate with 16 holes", Plan { bends: 0, cells: 16, holes: 16, slots: false }),
+        ("a bracket of 4 bends with 10 holes", Plan { bends: 4, cells: 6, holes: 10, slots: false }),
+        ("a plate with 64 holes", Plan { bends: 0, cells: 64, holes: 64, slots: false }),
+        ("a bracket of 6 bends with 40 holes", Plan { bends: 6, cells: 20, holes: 40, slots: false }),
+        ("a cover of 1 bend with 5 slots", Plan { bends: 1, cells: 5, holes: 5, slots: true }),
+        ("a cover of 2 bends with 20 slots", Plan { bends: 2, cells: 10, holes: 20, slots: true }),
+        ("a cover of 2 bends with 82 slots", Plan { bends: 2, cells: 41, holes: 82, slots: true }),
     ];
-    plans.iter().map(Plan::file).collect()
+    plans.iter().map(|(name, plan)| (name.to_string(), plan.file())).collect()
 }

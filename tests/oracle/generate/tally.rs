@@ -3,37 +3,11 @@
 //! tally < answers
 //!
 //! Ends with status 1 if an expected one is in fewer than 1 of 500 files.
+mod findings;
+
+use findings::{name, of_line, FINDINGS};
 use std::collections::BTreeMap;
 use std::io::Read;
-
-/// Severity and rule, and words of the text where one rule has several.
-const FINDINGS: &[(&str, &str, &str)] = &[
-    ("Error", "Thin wall", "to machine"),
-    ("Warning", "Thin wall", "to machine"),
-    ("Warning", "Small hole", "micro drills"),
-    ("Warning", "Deep hole", "gun drilling"),
-    ("Note", "Deep hole", "standard drills"),
-    ("Warning", "Tight inside radius", ""),
-    ("Warning", "Deep inside corner", ""),
-    ("Warning", "Sharp inside corner", ""),
-    ("Note", "No material", ""),
-    ("Error", "Material", ""),
-    ("Error", "Not one thickness", ""),
-    ("Error", "Tight bend", ""),
-    ("Warning", "Short flange", ""),
-    ("Warning", "Small hole", "punch poorly"),
-    ("Warning", "Hole too close", "an edge"),
-    ("Warning", "Hole too close", "a bend"),
-    ("Error", "Thinner than a layer", ""),
-    ("Warning", "Few layers", ""),
-    ("Error", "Thinner than the nozzle", ""),
-    ("Error", "Thin wall", "to print"),
-    ("Warning", "Thin wall", "to print"),
-    ("Warning", "Small hole", "print undersized"),
-    ("Warning", "Overhang", ""),
-    ("Warning", "Enclosed hollow", "resin"),
-    ("Error", "Enclosed hollow", "powder"),
-];
 
 /// Tallies of the answers as such.
 const WHOLE: &[&str] = &["a merged line", "no finding", "two findings and more", "a thickness", "a bend"];
@@ -64,11 +38,6 @@ fn expected() -> BTreeMap<String, u64> {
     findings.chain(refusals).chain(WHOLE.iter().map(|w| w.to_string())).map(|n| (n, 0)).collect()
 }
 
-fn name(finding: &(&str, &str, &str)) -> String {
-    let (severity, rule, words) = finding;
-    if words.is_empty() { format!("{severity} {rule}") } else { format!("{severity} {rule} ({words})") }
-}
-
 /// What one answer has.
 fn names(answer: &str) -> Vec<String> {
     let mut lines = answer.lines();
@@ -88,20 +57,6 @@ fn names(answer: &str) -> Vec<String> {
     }
     if head.get(2).is_some_and(|b| *b != "0") {
         out.push("a bend".into());
-    }
-    out
-}
-
-/// The finding of a line; one that is not in the list stands by its severity and rule.
-fn of_line(line: &str) -> Vec<String> {
-    let fields: Vec<&str> = line.splitn(5, '|').collect();
-    let [severity, rule, count, _, text] = fields[..] else { return vec![format!("odd line: {line}")] };
-    let known = FINDINGS.iter().find(|f| f.0 == severity && f.1 == rule && text.contains(f.2));
-    let mut out = vec![known.map_or(format!("not expected: {severity} {rule}"), name)];
-    // An overhang counts faces; any other count above 1 is of equal faults.
-    if count != "1" && rule != "Overhang" {
-        out.push("a merged line".into());
-        out.push(format!("merged {rule}"));
     }
     out
 }

@@ -1,4 +1,5 @@
 //! The oracle as a library, for tests that call it file by file, and the Rust's own functions for benchmarks beside ours.
+pub mod check;
 mod dfm;
 pub mod faults;
 pub mod lists;
@@ -8,6 +9,7 @@ pub mod measures;
 mod part;
 pub mod sine;
 pub mod solid;
+mod text;
 
 /// What dfm.rs imports by the name of its crate.
 mod anvil_kernel {
@@ -16,9 +18,6 @@ mod anvil_kernel {
 }
 
 pub use dfm::roots;
-
-/// Called where faults are merged, which is not done here.
-fn note_faults(_: usize) {}
 
 /// The refusal from 1 to 9 that a file meets, 0 for none.
 pub fn refusal(file: &[u8]) -> u32 {

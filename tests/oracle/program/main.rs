@@ -11,6 +11,7 @@
 //!     for each segment     u32 polygon, polygon; f64 end (3), end (3): as `shared_segments` gives them
 //!     for each face        u32 feature, index, kind, n; f64 origin (3), direction (3), radius, area; n u32 polygons: as `Part::new` has them
 //!     for each body        u32 lowest polygon, n; f64 volume; n u32 polygons: `hollows` before it leaves those out that are not hollow
+mod check;
 mod dfm;
 mod lists;
 mod material;
@@ -26,49 +27,12 @@ mod anvil_kernel {
     pub use crate::solid::{FaceId, Solid, SurfaceKind};
 }
 
-use std::cell::Cell;
+use check::{Checked, Lent};
 use std::io::{self, Read, Write};
 
-thread_local! {
-    static FAULTS: Cell<usize> = const { Cell::new(0) };
-}
-
-/// Called by `check_with` before it merges: how many faults there are.
-fn note_faults(count: usize) {
-    FAULTS.with(|c| c.set(count));
-}
-
-/// What the caller lends.
-struct Lent {
-    reals: usize,
-    words: usize,
-    rows: usize,
-    report: usize,
-}
-
-const MOST_FAULTS: usize = 2048;
-
-fn answer(bytes: &[u8], lent: &Lent) -> Result<String, u32> {
-    let file = part::read(bytes)?;
-    let (p, v) = (file.polygons, file.vertices);
-    if lent.reals < 16 * p + 8 * v + 2048 || lent.words < 8 * p + 8 * v + 1024 {
-        return Err(10);
-    }
-    note_faults(0);
-    let report = dfm::check_with(&file.body, file.material.as_ref(), file.process, &file.print);
-    let faults = FAULTS.with(Cell::get);
-    if faults > lent.rows || faults > MOST_FAULTS {
-        return Err(11);
-    }
-    let text = text::of_report(&report);
-    if text.len() > lent.report {
-        return Err(12);
-    }
-    Ok(text)
-}
-
 fn answer_text(bytes: &[u8], lent: &Lent) -> String {
-    answer(bytes, lent).unwrap_or_else(|number| format!("refused {number}\n"))
+    let answer = Checked::of(bytes).and_then(|checked| checked.answer(lent).map(String::from));
+    answer.unwrap_or_else(|number| format!("refused {number}\n"))
 }
 
 fn lists_bytes(bytes: &[u8]) -> Vec<u8> {

@@ -1,0 +1,204 @@
+//! Times from part file to report beside the Rust's, with the replacements and as published: the reader of part files, the check and the printing,
+//! all in the time. And of merging and printing about 2,048 faults, in few lines and in many: ours is the time of the check less that of finding the
+//! faults, the Rust's is taken by itself. Each time is the best of many, taken in turn in one run.
+#[path = "../lib/best.rs"]
+mod best;
+#[path = "../rays/bores.rs"]
+mod bores;
+#[path = "../oracle/generate/draw.rs"]
+#[allow(dead_code)]
+mod draw;
+#[path = "../part/field.rs"]
+mod field;
+#[path = "../oracle/generate/file.rs"]
+mod file;
+#[path = "../lib/gablemadder.rs"]
+mod gablemadder;
+#[path = "../sheet/parts.rs"]
+#[allow(dead_code)]
+mod holes;
+#[path = "../oracle/generate/job.rs"]
+#[allow(dead_code)]
+mod job;
+#[path = "../body/mesh.rs"]
+mod mesh;
+#[path = "../oracle/generate/part.rs"]
+#[allow(dead_code)]
+mod part;
+#[path = "../oracle/generate/plate.rs"]
+#[allow(dead_code)]
+mod plate;
+#[path = "../printing/parts.rs"]
+#[allow(dead_code)]
+mod prints;
+#[path = "../lib/random.rs"]
+mod random;
+#[path = "../oracle/generate/ring.rs"]
+#[allow(dead_code)]
+mod ring;
+#[path = "../part/sample.rs"]
+mod sample;
+#[path = "../body/shapes.rs"]
+mod shapes;
+#[path = "../oracle/generate/sheet.rs"]
+#[allow(dead_code)]
+mod sheet;
+#[path = "../oracle/generate/space.rs"]
+#[allow(dead_code)]
+mod space;
+#[path = "../machining/voxels.rs"]
+#[allow(dead_code)]
+mod voxels;
+
+mod many;
+mod timed;
+
+use best::best_of;
+use field::Blocks;
+use job::{CNC, PROCESSES};
+use oracle::check::Checked;
+use std::hint::black_box;
+use timed::Timed;
+
+/// What the program lends, and what there may be at the most.
+const ROWS: [usize; 2] = [512, 2048];
+const REPORT: usize = 1 << 20;
+/// Parts of fewer polygons are to take no longer than as published.
+const SMALL: usize = 800;
+
+/// What a call is lent.
+struct Lent {
+    words: Vec<u32>,
+    reals: Vec<f64>,
+    cells: Vec<u32>,
+    numbers: Vec<f64>,
+    report: Vec<u8>,
+}
+
+impl Lent {
+    fn new(checked: &Checked) -> Lent {
+        let rows = if checked.faults <= ROWS[0] { ROWS[0] } else { ROWS[1] };
+        Lent {
+            words: vec![0; checked.words],
+            reals: vec![0.0; checked.reals],
+            cells: vec![0; 6 * rows],
+            numbers: vec![0.0; 3 * rows],
+            report: vec![0; REPORT],
+        }
+    }
+
+    /// The length of the report.
+    fn check(&mut self, file: &[u8]) -> usize {
+        let mut written = 0;
+        let answer = gablemadder::check(file, &mut self.words, &mut self.reals, &mut self.cells, &mut self.numbers, &mut self.report, &mut written);
+        assert_eq!(answer, 0, "an accepted file");
+        written
+    }
+
+    /// The faults alone, before equal ones are merged: 1,000 and their number.
+    fn find(&mut self, part: &Timed) -> u32 {
+        let (words, reals, cells, numbers) = (&mut self.words, &mut self.reals, &mut self.cells, &mut self.numbers);
+        if part.process == CNC {
+            gablemadder::machining(&part.file, words, reals, cells, numbers)
+        } else {
+            gablemadder::printing(&part.file, words, reals, cells, numbers, &mut [0.0; 2])
+        }
+    }
+
+    fn is_same(&mut self, part: &Timed, checked: &Checked) {
+        let n = self.check(&part.file);
+        assert_eq!(String::from_utf8_lossy(&self.report[..n]), checked.text, "{}: the report", part.name);
+    }
+}
+
+/// Fewer of large parts, whose times are long.
+fn rounds(polygons: usize) -> usize {
+    (100_000 / polygons).clamp(30, 2_000)
+}
+
+/// How many polygons there are, and both ratios: to the Rust with the replacements, and as published.
+fn whole(part: &Timed) -> (usize, [f64; 2]) {
+    let (file, polygons) = (&part.file[..], Blocks::of(&part.file).expect("a good file").polygons);
+    let checked = Checked::of(file).ok().expect("an accepted file");
+    let mut lent = Lent::new(&checked);
+    lent.is_same(part, &checked);
+    let [ours, theirs, other] = best_of(
+        rounds(polygons),
+        1000,
+        [
+            &mut || {
+                black_box(lent.check(black_box(file)));
+            },
+            &mut || drop(black_box(Checked::of(black_box(file)))),
+            &mut || drop(black_box(published::check::Checked::of(black_box(file)))),
+        ],
+    );
+    let ratios = [ours / theirs, ours / other];
+    println!(
+        "check, {}, {} ({polygons} polygons; {} faults, {} lines): {ours:.1} µs; \
+         the Rust's {theirs:.1} µs with the replacements, {other:.1} µs as published: {:.2} and {:.2} times theirs",
+        PROCESSES[part.process as usize],
+        part.name,
+        checked.faults,
+        checked.text.lines().count() - 1,
+        ratios[0],
+        ratios[1]
+    );
+    (polygons, ratios)
+}
+
+/// The ratio to the Rust, whose merging and printing is the same with the replacements and as published.
+fn merging(part: &Timed) -> f64 {
+    let file = &part.file[..];
+    let checked = Checked::of(file).ok().expect("an accepted file");
+    let mut lent = Lent::new(&checked);
+    let mut other = Lent::new(&checked);
+    lent.is_same(part, &checked);
+    assert_eq!(lent.find(part) as usize, 1000 + checked.faults, "{}: the number of faults", part.name);
+    let process = oracle::faults::Process::ALL[part.process as usize];
+    let found = oracle::faults::Part::read(file).ok().expect("an accepted file").report(process);
+    let rounds = 60;
+    // the Rust's merging takes its findings apart, so that each round needs its own
+    let mut copies = vec![found; rounds];
+    let [all, finding, theirs] = best_of(
+        rounds,
+        1000,
+        [
+            &mut || {
+                black_box(lent.check(black_box(file)));
+            },
+            &mut || {
+                black_box(other.find(black_box(part)));
+            },
+            &mut || drop(black_box(oracle::check::printed(copies.pop().expect("one for each round")))),
+        ],
+    );
+    let ours = all - finding;
+    let lines = checked.text.lines().count() - 1;
+    println!(
+        "merging and printing, {}, {} ({} faults, {lines} lines, {} bytes): {all:.1} µs less {finding:.1} µs for finding them are {ours:.1} µs; \
+         the Rust's {theirs:.1} µs: {:.2} times theirs",
+        PROCESSES[part.process as usize],
+        part.name,
+        checked.faults,
+        checked.text.len(),
+        ours / theirs
+    );
+    ours / theirs
+}
+
+fn main() {
+    let many = timed::of_many_faults();
+    let ratios: Vec<(usize, [f64; 2])> = timed::by_size().iter().chain(&many).map(whole).collect();
+    let merged: Vec<f64> = many.iter().map(merging).collect();
+    let most = |list: &mut dyn Iterator<Item = f64>| list.fold(0.0, f64::max);
+    let slower = ratios.iter().filter(|r| r.1[0] > 1.0).count();
+    println!(
+        "check: at most {:.2} times the Rust's time with the replacements, slower in {slower} of {}; below {SMALL} polygons at most {:.2} times as \
+         published; merging and printing at most {:.2} times",
+        most(&mut ratios.iter().map(|r| r.1[0])),
+        ratios.len(),
+        most(&mut ratios.iter().filter(|r| r.0 < SMALL).map(|r| r.1[1])),
+        most(&mut merged.into_iter())
+    );
+}

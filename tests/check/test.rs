@@ -1,0 +1,220 @@
+//! The check of part files against the patched Rust's: the report byte by byte, refusals 1 to 12, and every lent buffer before and after.
+//! Takes generated files from standard input, and the file `corner` of docs/DIFFERENCES.md by its path; with --quick there are fewer of the others.
+#[path = "../rays/bores.rs"]
+mod bores;
+#[path = "../sheet/brackets.rs"]
+#[allow(dead_code)]
+mod brackets;
+#[path = "../body/change.rs"]
+mod change;
+#[path = "../part/damage.rs"]
+#[allow(dead_code)]
+mod damage;
+#[path = "../oracle/generate/draw.rs"]
+#[allow(dead_code)]
+mod draw;
+#[path = "../part/field.rs"]
+mod field;
+#[path = "../oracle/generate/file.rs"]
+mod file;
+#[path = "../oracle/generate/findings.rs"]
+mod findings;
+#[path = "../printing/fit.rs"]
+mod fit;
+#[path = "../printing/floors.rs"]
+mod floors;
+#[path = "../lib/gablemadder.rs"]
+mod gablemadder;
+#[path = "../printing/hollows.rs"]
+#[allow(dead_code)]
+mod hollows;
+#[path = "../rules/ids.rs"]
+#[allow(dead_code)]
+mod ids;
+#[path = "../oracle/generate/job.rs"]
+#[allow(dead_code)]
+mod job;
+#[path = "../printing/jobs.rs"]
+#[allow(dead_code)]
+mod jobs;
+#[path = "../part/large.rs"]
+mod large;
+#[path = "../lib/lent.rs"]
+#[allow(dead_code)]
+mod lent;
+#[path = "../machining/limits.rs"]
+mod machining;
+#[path = "../body/mesh.rs"]
+mod mesh;
+#[path = "../printing/over.rs"]
+#[allow(dead_code)]
+mod over;
+#[path = "../oracle/generate/part.rs"]
+#[allow(dead_code)]
+mod part;
+#[path = "../oracle/generate/plate.rs"]
+#[allow(dead_code)]
+mod plate;
+#[path = "../lib/random.rs"]
+mod random;
+#[path = "../oracle/generate/ring.rs"]
+#[allow(dead_code)]
+mod ring;
+#[path = "../part/sample.rs"]
+mod sample;
+#[path = "../body/scratch.rs"]
+mod scratch;
+#[path = "../body/shapes.rs"]
+mod shapes;
+#[path = "../oracle/generate/sheet.rs"]
+#[allow(dead_code)]
+mod sheet;
+#[path = "../sheet/jobs.rs"]
+#[allow(dead_code)]
+mod sheet_jobs;
+#[path = "../sheet/limits.rs"]
+mod sheet_limits;
+#[path = "../oracle/generate/space.rs"]
+#[allow(dead_code)]
+mod space;
+#[path = "../lib/stream.rs"]
+mod stream;
+#[path = "../part/sweep.rs"]
+#[allow(dead_code)]
+mod sweep;
+#[path = "../lib/tally.rs"]
+mod tally;
+#[path = "../printing/ups.rs"]
+#[allow(dead_code)]
+mod ups;
+#[path = "../machining/voxels.rs"]
+#[allow(dead_code)]
+mod voxels;
+#[path = "../rays/walls.rs"]
+mod walls;
+
+mod compare;
+mod many;
+mod parts;
+mod seen;
+mod sizes;
+
+use compare::Compare;
+use mesh::Mesh;
+use random::Random;
+use std::sync::mpsc::{sync_channel, Receiver};
+use std::sync::Mutex;
+use std::thread;
+
+const LEAST: u64 = 1_000_000;
+const SHAPES: u64 = 150_000;
+/// The complaint that started it all has one answer in so many runs.
+const RUNS: u64 = 1_000;
+/// Changed copies of larger files cost more than they show.
+const LARGE: usize = 100_000;
+/// Where the smallest file with a difference is put.
+const DIFFERENT: &str = "target/tests/check/different";
+
+type Generated = Mutex<Receiver<(u64, Vec<u8>)>>;
+
+fn main() {
+    let words: Vec<String> = std::env::args().skip(1).collect();
+    let quick = words.iter().any(|w| w == "--quick");
+    let corner = words.iter().find(|w| !w.starts_with("--")).expect("the path of `corner`");
+    let corner = std::fs::read(corner).expect("the file `corner`");
+    let threads = thread::available_parallelism().map_or(2, |n| n.get() as u64);
+    let (sender, receiver) = sync_channel(256);
+    let receiver: Generated = Mutex::new(receiver);
+    let done: Vec<Compare> = thread::scope(|scope| {
+        let work = |k: u64| {
+            let (corner, receiver) = (&corner[..], &receiver);
+            scope.spawn(move || {
+                let mut c = Compare::new(40 + k);
+                own(&mut c, k, threads, quick, corner);
+                from_input(&mut c, receiver);
+                c
+            })
+        };
+        let workers: Vec<_> = (0..threads).map(work).collect();
+        stream::each(|number, file| sender.send((number, file.to_vec())).expect("a test thread failed")).expect("a stream of part files");
+        drop(sender);
+        workers.into_iter().map(|w| w.join().expect("a test thread failed")).collect()
+    });
+    std::process::exit(report(done, quick));
+}
+
+/// Each of the threads takes its share of what is drawn here.
+fn own(c: &mut Compare, thread: u64, threads: u64, quick: bool, corner: &[u8]) {
+    if thread == 0 {
+        c.again(corner, RUNS, "1,000 runs of `corner`");
+        if !quick {
+            sweep::run(c, 1);
+        }
+    }
+    if thread + 1 == threads {
+        large::run(c, if quick { 1 } else { 5 });
+        special(c, if quick { 1 } else { 3 }, quick);
+    }
+    let shapes = if quick { SHAPES / 100 } else { SHAPES };
+    for number in (thread..shapes).step_by(threads as usize) {
+        shape(c, number);
+    }
+}
+
+/// A part, a changed copy and a damaged one, by its number alone.
+fn shape(c: &mut Compare, number: u64) {
+    let mut random = Random(Random(50).next() ^ Random(!number).next());
+    let mesh = parts::draw(&mut random);
+    c.check(&mesh.bytes(), || format!("shape {number}"));
+    c.check(&parts::changed(&mut random, &mesh).bytes(), || format!("shape {number}, changed"));
+    if number % 4 == 0 {
+        c.check(&parts::damaged(&mut random, &mesh), || format!("shape {number}, damaged"));
+    }
+}
+
+/// Many faults, and many polygons.
+fn special(c: &mut Compare, times: u64, quick: bool) {
+    for _ in 0..times {
+        for (name, mesh) in parts::of_many_faults() {
+            c.check(&mesh.bytes(), || name);
+        }
+    }
+    for (name, mesh) in parts::large(&mut Random(51)).into_iter().step_by(if quick { 7 } else { 1 }) {
+        c.check(&mesh.bytes(), || name);
+    }
+}
+
+/// Generated files, as they are and changed.
+fn from_input(c: &mut Compare, files: &Generated) {
+    let next = || files.lock().expect("a test thread failed").recv().ok();
+    while let Some((number, file)) = next() {
+        if c.check(&file, || format!("generated file {number}")) == 0 && file.len() < LARGE {
+            let mut random = Random(Random(52).next() ^ Random(!number).next());
+            let changed = parts::changed(&mut random, &Mesh::read(&file));
+            c.check(&changed.bytes(), || format!("generated file {number}, changed"));
+        }
+    }
+}
+
+/// Prints the figures. The program's status: not 0 on a difference, or where too little was seen.
+fn report(done: Vec<Compare>, quick: bool) -> i32 {
+    let (mut files, mut calls, mut different) = (0, 0, 0);
+    let (mut seen, mut smallest) = (seen::Seen::wanted(), None::<Vec<u8>>);
+    for c in done {
+        (files, calls, different) = (files + c.tally.compared, calls + c.calls, different + c.tally.different);
+        seen = seen.and(c.seen);
+        smallest = smallest.into_iter().chain(c.smallest).min_by_key(Vec::len);
+    }
+    println!("check: {}", seen.text());
+    if let Some(file) = smallest {
+        std::fs::write(DIFFERENT, &file).expect("a place for the file");
+        println!("check: the smallest file with a difference, {} bytes, is in {DIFFERENT}", file.len());
+    }
+    let rare = seen.too_rare();
+    let few = !quick && (files < LEAST || !rare.is_empty());
+    if few {
+        println!("check: fewer than {LEAST} files, or too rare: {}", rare.join("; "));
+    }
+    println!("check: {files} files, {calls} calls, {different} differences");
+    i32::from(different != 0 || few)
+}
