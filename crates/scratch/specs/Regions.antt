@@ -59,7 +59,7 @@ pub record Laid (at : Regions) : Type 0 where
   pub rounds : at .rounds ≡ at .weights + at .polygons
   -- the directions of a round's vertices, of one round at a time
   pub directions : at .directions ≡ at .rounds + 7 * at .polygons
-  -- free
+  -- seven numbers for each edge of a sheet in the order of its tours: where it starts, the way to its end and the square of that
   pub free : at .free ≡ at .directions + at .vertices
   -- the end
   pub reals : at .reals ≡ realsNeeded (at .polygons) (at .vertices)
