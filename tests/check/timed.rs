@@ -44,8 +44,8 @@ pub fn by_size() -> Vec<Timed> {
         list.extend([CNC, FDM, SLA].map(|process| Timed::new(process, prints::with_cells(nx, ny))));
     }
     list.extend([33, 133, 533, 666].map(|count| Timed::new(SLA, prints::with_hollows(count))));
-    list.extend([(1, 2), (3, 3), (3, 11), (3, 14)].map(|(nx, ny)| Timed::new(SHEET, with_holes(nx, ny))));
-    for (bends, cells, holes) in [(0, 4, 4), (0, 16, 16), (0, 64, 64), (2, 3, 3), (4, 7, 10), (6, 20, 40), (6, 56, 8)] {
+    list.extend([(1, 2), (2, 4), (3, 11), (3, 14)].map(|(nx, ny)| Timed::new(SHEET, with_holes(nx, ny))));
+    for (bends, cells, holes) in [(0, 4, 4), (0, 16, 16), (0, 64, 64), (2, 3, 3), (4, 6, 10), (6, 20, 40), (6, 56, 8)] {
         let name = if bends == 0 { "a strip".into() } else { format!("a bracket of {bends} bends") };
         let file = holes::Plan { bends, cells, holes, slots: false }.file();
         list.push(Timed { name: format!("{name} with {holes} holes"), process: SHEET, file });
