@@ -13,13 +13,13 @@ ROOT = os.path.dirname(os.path.dirname(os.path.dirname(os.path.abspath(__file__)
 HEADER = "include/gablemadder.h"
 RUST = "bindings/rust/src/"
 C_TYPES = {"u8": "uint8_t", "u32": "uint32_t", "u64": "uint64_t", "usize": "size_t", "f64": "double"}
-# structs that the library's functions take, and their names in C
-STRUCTS = {"FaultRow": "gablemadder_fault_row"}
-# the names of the refusals that no enum of the source has, each with the place of its number
+# the one struct that the library's functions take: its name in C and in the Rust package
+C_ROW, RUST_ROW = "gablemadder_fault_row", "FaultRow"
+# the names of the refusals that no enum of the source has, each with where its number stands, in code or in a definition
 OTHERS = {
     "TooLittleScratch": ("crates/scratch/src/refusal.rt", r"\(words < at\.words\) \| \(reals < at\.reals\) \{\s*return (\d+);"),
-    "TooManyFaults": ("crates/dfm*/src/*.rt", r"faults \{\s*return (?:\w+::)?Refused \{ number: (\d+) \}"),
-    "ReportTooLong": ("crates/dfm*/src/*.rt", r"Written::TooLong => \w+::Refused \{ number: (\d+) \}"),
+    "TooManyFaults": ("crates/dfm*/specs/*.antt", r"\(Refused \d+\)\) \(Refused (\d+)\)\)"),
+    "ReportTooLong": ("crates/dfm*/specs/*.antt", r"\(Refused (\d+)\)\) \(Refused \d+\)\)"),
     "NoDecimal": ("crates/exports/src/texts.rt", r"Answer::Refused => (\d+)"),
 }
 
@@ -80,6 +80,12 @@ def source_functions(tree, types, pointer):
             pairs = [item.split(": ") for item in listed(parameters)]
             found[name] = (types[result], [p for pair in pairs for p in lowered(*pair, types, pointer)])
     return found
+
+
+def source_row(tree):
+    """The name of the struct in the source."""
+    text = "".join(tree.read(path) for path in tree.found("crates/exports/src/*.rt"))
+    return only(r"&mut \[([A-Z]\w*)\]", text, "slice of structs")
 
 
 def source_struct(tree, name):
@@ -157,10 +163,11 @@ def differences(tree):
     header = without_comments(whole)
     ffi, refusal, report = (tree.read(RUST + name + ".rs") for name in ("ffi", "refusal", "report"))
 
-    c_types = dict(C_TYPES, **STRUCTS)
+    row = source_row(tree)
+    c_types = {**C_TYPES, row: C_ROW}
     c_source = source_functions(tree, c_types, lambda kind, const: ("const " if const else "") + kind + "*")
     c_header = header_functions(header)
-    rust_types = {name: name for name in [*C_TYPES, *STRUCTS]}
+    rust_types = {**{name: name for name in C_TYPES}, row: RUST_ROW}
     rust_source = source_functions(tree, rust_types, lambda kind, const: ("*const " if const else "*mut ") + kind)
     rust_header = {
         name: (result, [tuple(item.split(": ")) for item in listed(parameters)])
@@ -171,11 +178,10 @@ def differences(tree):
         for name in ours.keys() & theirs.keys():
             same("%s: %s" % (what, name), ours[name], theirs[name])
 
-    for name, c_name in STRUCTS.items():
-        fields = source_struct(tree, name)
-        same("header: " + c_name, header_struct(header, c_name), fields)
-        body = only(r"#\[repr\(C\)\]\n[^\n]*\npub struct %s \{(.*?)\n\}" % name, ffi, "#[repr(C)] struct %s of ffi.rs" % name)
-        same("ffi.rs: " + name, [(field, C_TYPES[kind]) for field, kind in re.findall(r"pub (\w+): (\w+),", body)], fields)
+    fields = source_struct(tree, row)
+    same("header: " + C_ROW, header_struct(header, C_ROW), fields)
+    body = only(r"#\[repr\(C\)\]\n[^\n]*\npub struct %s \{(.*?)\n\}" % RUST_ROW, ffi, "#[repr(C)] struct of ffi.rs")
+    same("ffi.rs: " + RUST_ROW, [(field, C_TYPES[kind]) for field, kind in re.findall(r"pub (\w+): (\w+),", body)], fields)
 
     numbers = source_refusals(tree)
     declared = {name: int(number) for name, number in re.findall(r"GABLEMADDER_(\w+) = (\d+)", header)}
