@@ -1,8 +1,9 @@
 //! The forms of the check that own their buffers.
 use crate::{check_with, FaultRow, Refusal, Report, Scratch, MOST_REPORT, MOST_ROWS};
 
-/// What most reports fit into.
-const FIRST_REPORT: usize = 65_536;
+/// Most parts have fewer faults, and shorter reports.
+const FIRST_ROWS: usize = 256;
+const FIRST_REPORT: usize = 32_768;
 
 /// Checks a part file, with buffers of the right sizes for it.
 ///
@@ -20,8 +21,8 @@ pub fn check(file: &[u8]) -> Result<Report<'static>, Refusal> {
 /// Checks parts one after the other in buffers that it keeps.
 ///
 /// The buffers grow to what the largest part so far needed and then stay: a part that needs no more is checked without allocating, and its report
-/// read too. All 2,048 rows are lent from the first part on. The report's buffer has 65,536 bytes, and from the first longer report on
-/// [`MOST_REPORT`]: that part is checked twice.
+/// read too. There are 256 rows and 32,768 bytes for the report at first. The first part for which these are too few is checked a second time, with
+/// [`MOST_ROWS`] and [`MOST_REPORT`], and all parts after it are lent as many.
 ///
 /// ```
 /// # fn main() -> Result<(), Box<dyn std::error::Error>> {
@@ -50,21 +51,21 @@ impl Checker {
 
     /// Checks a part file; its report stands in the checker until the next part. The same refusals come as from [`check`].
     pub fn check(&mut self, file: &[u8]) -> Result<Report<'_>, Refusal> {
-        let mut answer = self.attempt(file, FIRST_REPORT);
-        if answer == Err(Refusal::ReportTooLong) {
-            answer = self.attempt(file, MOST_REPORT);
+        let mut answer = self.attempt(file, FIRST_ROWS, FIRST_REPORT);
+        if matches!(answer, Err(Refusal::TooManyFaults | Refusal::ReportTooLong)) && self.report.len() < MOST_REPORT {
+            answer = self.attempt(file, MOST_ROWS, MOST_REPORT);
         }
         let report = Report::parse(&self.report[..answer?]);
         Ok(report.expect("the library's reports are well formed"))
     }
 
-    /// The report's length, with a buffer of at least so many bytes for it.
-    fn attempt(&mut self, file: &[u8], report: usize) -> Result<usize, Refusal> {
+    /// The report's length, with at least so many rows, and bytes for the report.
+    fn attempt(&mut self, file: &[u8], rows: usize, report: usize) -> Result<usize, Refusal> {
         let scratch = Scratch::of(file);
         // Only what the part needs is lent of the scratch, since all that is lent is cleared.
         let words = grown(&mut self.words, scratch.words);
         let reals = grown(&mut self.reals, scratch.reals);
-        grown(&mut self.rows, MOST_ROWS);
+        grown(&mut self.rows, rows);
         grown(&mut self.report, report);
         check_with(file, words, reals, &mut self.rows, &mut self.report)
     }
