@@ -1,0 +1,95 @@
+//! The forms of the check that own their buffers.
+use crate::{check_with, FaultRow, Refusal, Report, Scratch, MOST_REPORT, MOST_ROWS};
+
+/// Most parts have fewer faults, and shorter reports.
+const FIRST_ROWS: usize = 256;
+const FIRST_REPORT: usize = 32_768;
+
+/// Checks a part file, with buffers of the right sizes for it.
+///
+/// [`TooLittleScratch`](Refusal::TooLittleScratch) and [`ReportTooLong`](Refusal::ReportTooLong) do not come from here, and
+/// [`TooManyFaults`](Refusal::TooManyFaults) means over 2,048 faults. To check many parts keep a [`Checker`].
+///
+/// ```
+/// use gablemadder::Refusal;
+/// assert_eq!(gablemadder::check(b"no part"), Err(Refusal::TooShort));
+/// ```
+pub fn check(file: &[u8]) -> Result<Report<'static>, Refusal> {
+    Checker::new().check(file).map(Report::into_owned)
+}
+
+/// Checks parts one after the other in buffers that it keeps.
+///
+/// The buffers grow to what the largest part so far needed and then stay: a part that needs no more is checked without allocating, and its report
+/// read too. There are 256 rows and 32,768 bytes for the report at first. The first part for which these are too few is checked a second time, with
+/// [`MOST_ROWS`] and [`MOST_REPORT`], and all parts after it are lent as many.
+///
+/// ```
+/// # fn main() -> Result<(), Box<dyn std::error::Error>> {
+/// # let file = std::fs::read(concat!(env!("CARGO_MANIFEST_DIR"), "/../../examples/plate.part"))?;
+/// let mut checker = gablemadder::Checker::new();
+/// for part in [&file, &file] {
+///     let report = checker.check(part)?;
+///     assert_eq!(report.findings().count(), 1);
+/// }
+/// # Ok(())
+/// # }
+/// ```
+#[derive(Debug, Default)]
+pub struct Checker {
+    words: Vec<u32>,
+    reals: Vec<f64>,
+    rows: Vec<FaultRow>,
+    report: Vec<u8>,
+}
+
+impl Checker {
+    /// Nothing is allocated before the first part.
+    pub fn new() -> Checker {
+        Checker::default()
+    }
+
+    /// Checks a part file; its report stands in the checker until the next part. The same refusals come as from [`check`].
+    pub fn check(&mut self, file: &[u8]) -> Result<Report<'_>, Refusal> {
+        let mut answer = self.attempt(file, FIRST_ROWS, FIRST_REPORT);
+        if matches!(answer, Err(Refusal::TooManyFaults | Refusal::ReportTooLong)) && self.report.len() < MOST_REPORT {
+            answer = self.attempt(file, MOST_ROWS, MOST_REPORT);
+        }
+        let report = Report::parse(&self.report[..answer?]);
+        Ok(report.expect("the library's reports are well formed"))
+    }
+
+    /// The report's length, with at least so many rows, and bytes for the report.
+    fn attempt(&mut self, file: &[u8], rows: usize, report: usize) -> Result<usize, Refusal> {
+        let scratch = Scratch::of(file);
+        // Only what the part needs is lent of the scratch, since all that is lent is cleared.
+        let words = grown(&mut self.words, scratch.words);
+        let reals = grown(&mut self.reals, scratch.reals);
+        grown(&mut self.rows, rows);
+        grown(&mut self.report, report);
+        check_with(file, words, reals, &mut self.rows, &mut self.report)
+    }
+}
+
+/// The first so many elements, which are made where there are fewer.
+fn grown<T: Clone + Default>(buffer: &mut Vec<T>, length: usize) -> &mut [T] {
+    if buffer.len() < length {
+        buffer.resize(length, T::default());
+    }
+    &mut buffer[..length]
+}
+
+#[cfg(test)]
+mod tests {
+    use super::*;
+
+    #[test]
+    fn a_buffer_grows_and_stays() {
+        let mut buffer: Vec<u32> = Vec::new();
+        assert_eq!(grown(&mut buffer, 3), [0, 0, 0]);
+        buffer[2] = 7;
+        assert_eq!(grown(&mut buffer, 2), [0, 0]);
+        assert_eq!(grown(&mut buffer, 4), [0, 0, 7, 0]);
+        assert_eq!(buffer.len(), 4);
+    }
+}
