@@ -11,7 +11,9 @@ use lib.Ieee.{Float, nan, inf, fin, binary64, up, down, unlike, round, mul, lt, 
 use lib.Ieee.Fits.{down-pos, up-pos}
 use Rattle.num_float.specs.Units.{minus-sign}
 use Rattle.num_float.proofs.Order.{le-numbers, le-refl-number}
-use Rattle.num_order.proofs.Signed.{clash, over, under, AtMost, round-le, le-at-most}
+use Rattle.num_order.specs.Fraction.{over, under, AtMost}
+use Rattle.num_order.specs.Factor.{sided, NonZero, infinite, number}
+use Rattle.num_order.proofs.Signed.{clash, round-le, le-at-most}
 use Rattle.num_order.proofs.Sums.{least, most, round-number}
 
 opened : (b : Bool) (z : Float) → isNan (cond b nan z) ≡ false → b ≡ false
@@ -20,11 +22,6 @@ opened true z h = h
 opened false z h = refl
 
 -- ---- multiplying with a number
--- x is at most y, or at least where b is
-unfoldable pub sided : Bool → Float → Float → Bool
-sided false x y = le x y
-sided true x y = le y x
-
 product : (s1 s2 t : Bool) (a1 a2 b c1 c2 d : ℕ) → 0 < c1 → 0 < c2 → 0 < d → AtMost s1 a1 c1 s2 a2 c2
     → sided t (round binary64 (unlike s1 t) (a1 * b) (c1 * d)) (round binary64 (unlike s2 t) (a2 * b) (c2 * d)) ≡ true
 unfolding sided
@@ -156,11 +153,6 @@ unfolding mul isNan
 finite-factor nan u k g K n = n
 finite-factor (inf s) u k g K n = rw (ne-eqb k 0 (λ h. omega arith))
 finite-factor (fin s m e) u k g K n = round-number (unlike s u) (m * up e * (k * up g)) (down e * down g) (mul-pos (down-pos e) (down-pos g))
-
--- i is a number other than zero
-pub data NonZero : Float → Type 0 where
-  infinite : (u : Bool) → NonZero (inf u)
-  number : (u : Bool) (k : ℕ) (g : ℤ) → 0 < k → NonZero (fin u k g)
 
 unlike-true : (u : Bool) → unlike true u ≡ not u
 unlike-true true = refl

@@ -13,6 +13,7 @@ use lib.Ieee.Bits.{is-true}
 use lib.Ieee.Order.{round-mono}
 use Rattle.num_float.proofs.Tests.{contrary, and-left, and-right, lt-or-ge}
 use Rattle.num_float.proofs.Order.{le-trans}
+use Rattle.num_order.specs.Fraction.{over, under, AtMost}
 
 -- ---- by cases
 pub by-lt : (a b : ℕ) {A : Type 0} → (a < b → A) → (b ≤ a → A) → A
@@ -22,23 +23,9 @@ by-lt a b f g = ⊎-elim f g (lt-or-ge a b)
 pub clash : {A : Type 0} (b : Bool) → b ≡ true → b ≡ false → A
 clash {A} b p q = absurd {A = A} (contrary p q)
 
-or-cases : {A : Type 0} (p q : Bool) → p || q ≡ true → (p ≡ true → A) → (q ≡ true → A) → A
+pub or-cases : {A : Type 0} (p q : Bool) → p || q ≡ true → (p ≡ true → A) → (q ≡ true → A) → A
 or-cases true q h f g = f refl
 or-cases false q h f g = g h
-
--- ---- fractions with a sign
--- the part of ±a above zero, and the part below
-abbrev pub over : Bool → ℕ → ℕ
-over false a = a
-over true a = 0
-
-abbrev pub under : Bool → ℕ → ℕ
-under false a = 0
-under true a = a
-
--- ±a / c is at most ±b / d
-abbrev pub AtMost : Bool → ℕ → ℕ → Bool → ℕ → ℕ → Type 0
-AtMost s a c t b d = over s a * d + under t b * c ≤ over t b * c + under s a * d
 
 -- ---- a sign changes nothing but the sign
 neg-odd : (k : ℕ) (q j l : ℕ) → odd k true q j l ≡ neg (odd k false q j l)

@@ -3,9 +3,9 @@ use borrow.Author.Needs.{needs}
 use mathlib.Core.Path.{subst}
 use native.Mathlib.Omega.{arith}
 use denote.Ref.{now}
+use Rattle.math.specs.Vector.{zeroVec}
 use Rattle.solid_boxes.specs.Tree.{Order}
 use Rattle.solid_boxes.proofs.OwnLaws.{small-count}
-use Rattle.math.specs.Vector.{zeroVec}
 use Rattle.solid_boxes.proofs.BoxLaws.{node-leaf, node-none, node-one, node-last, zero-self, end-inside, filled-at}
 use Rattle.solid_boxes.proofs.boxes.node_of.Statement.{statement}
 use Rattle.solid_boxes.proofs.boxes.node_of.Tie as tie

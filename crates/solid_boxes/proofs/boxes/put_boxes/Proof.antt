@@ -6,10 +6,10 @@ use native.Mathlib.Omega.{arith}
 use denote.Ref.{now}
 use lib.ListN.{length}
 use Rattle.file_part.specs.Part.{partOf}
+use Rattle.solid_faces.proofs.BodyLaws.{polygons-are}
 use Rattle.solid_boxes.specs.Bounds.{padded, ownBox}
 use Rattle.solid_boxes.specs.Work.{Started, Filled}
 use Rattle.solid_boxes.proofs.OwnLaws.{small-count}
-use Rattle.solid_faces.proofs.BodyLaws.{polygons-are}
 use Rattle.solid_boxes.proofs.BoxLaws.{filled-none, filled-back, filled-tree, fill-step}
 use Rattle.solid_boxes.proofs.boxes.put_boxes.Statement.{statement}
 use Rattle.solid_boxes.proofs.boxes.put_boxes.Tie as tie
