@@ -188,43 +188,64 @@ module _ (l : List Float) (i : ℕ) (b : Bounds) where
       )
 
 -- ---- the kinds of node
-module _ (own : ℕ → Bounds) (words : List ℕ) (n m i : ℕ) (l : i < m) where
+-- node k, once put, and the nodes below it
+from-self : (own : ℕ → Bounds) (boxes : List Float) (words : List ℕ) (n m k s : ℕ) → Node own boxes words n m k (boxAt boxes k) s →
+    (j : ℕ) → k ≤ j → j < s → Holds (boxAt boxes k) (boxAt boxes j)
+from-self own boxes words n m k s w j lo hi =
+    by-lt k j (λ g. w .above j g hi) (λ g. let e : j ≡ k = omega (arith, g, lo) in rw e (w .covers .numbers))
+
+module _ (own : ℕ → Bounds) (boxes : List Float) (words : List ℕ) (n m i : ℕ) (l : i < m) where
   pub node-leaf : (a e : ℕ) (b : Bounds) → a ≡ at words (n + i) → e ≡ at words (n + (i + 1)) → Covers own (at words) a e b →
-      Node own words n m i b (i + 1)
+      Node own boxes words n m i b (i + 1)
   unfolding startAt
-  node-leaf a e b p q w = record { ahead = omega arith; within = omega arith; covers = rw (← p, ← q) w }
+  node-leaf a e b p q w =
+      record {
+        ahead = omega arith;
+        within = omega arith;
+        above = λ j lo hi. absurd {A = Holds b (boxAt boxes j)} (omega (arith, lo, hi));
+        covers = rw (← p, ← q) w;
+      }
 
   -- no polygons of its own and nothing after it
-  pub node-none : (a e : ℕ) (b : Bounds) → a ≡ at words (n + i) → e ≡ at words (n + (i + 1)) → e ≤ a → Holds b b → Node own words n m i b (i + 1)
+  pub node-none : (a e : ℕ) (b : Bounds) → a ≡ at words (n + i) → e ≡ at words (n + (i + 1)) → e ≤ a → Holds b b →
+      Node own boxes words n m i b (i + 1)
   unfolding startAt
   node-none a e b p q h w =
       record {
         ahead = omega arith;
         within = omega arith;
+        above = λ j lo hi. absurd {A = Holds b (boxAt boxes j)} (omega (arith, lo, hi));
         covers = record { numbers = w; each = λ x u v. absurd {A = Holds b (own (at words x))} (omega (arith, u, v, p, q, h)) };
       }
 
   -- what it holds is what the next node does
-  pub node-one : (a e : ℕ) (b c : Bounds) (s t : ℕ) → a ≡ at words (n + i) → e ≡ at words (n + (i + 1)) → e ≤ a → c ≡ b → t ≡ s →
-      Node own words n m (i + 1) b s → Node own words n m i c t
+  pub node-one : (a e : ℕ) (c : Bounds) (s t : ℕ) → a ≡ at words (n + i) → e ≡ at words (n + (i + 1)) → e ≤ a → c ≡ boxAt boxes (i + 1) → t ≡ s →
+      Node own boxes words n m (i + 1) (boxAt boxes (i + 1)) s → Node own boxes words n m i c t
   unfolding startAt
-  node-one a e b c s t p q h eb es w =
+  node-one a e c s t p q h eb es w =
       rw (eb, es)
       (record {
         ahead = omega (arith, w .ahead);
         within = w .within;
+        above = λ j lo hi. from-self own boxes words n m (i + 1) s w j (omega (arith, lo)) hi;
         covers = record { numbers = w .covers .numbers; each = λ x u v. w .covers .each x (omega (arith, u, p, q, h)) v };
       })
 
-  pub node-two : (a e : ℕ) (b d f : Bounds) (s t u : ℕ) → a ≡ at words (n + i) → e ≡ at words (n + (i + 1)) → e ≤ a → f ≡ joined b d → u ≡ t →
-      Node own words n m (i + 1) b s → Node own words n m s d t → Node own words n m i f u
+  -- two children
+  node-two : (a e : ℕ) (f : Bounds) (s t : ℕ) → a ≡ at words (n + i) → e ≡ at words (n + (i + 1)) → e ≤ a →
+      f ≡ joined (boxAt boxes (i + 1)) (boxAt boxes s) → Node own boxes words n m (i + 1) (boxAt boxes (i + 1)) s →
+      Node own boxes words n m s (boxAt boxes s) t → Node own boxes words n m i f t
   unfolding startAt
-  node-two a e b d f s t u p q h ef eu w y =
-      let z = covers-join own (at words) (at words (n + (i + 1))) (at words (n + s)) (at words (n + t)) b d (w .covers) (y .covers) in
-      rw (ef, eu)
+  node-two a e f s t p q h ef w y =
+      let z = covers-join own (at words) (at words (n + (i + 1))) (at words (n + s)) (at words (n + t)) _ _ (w .covers) (y .covers) in
+      rw ef
       (record {
         ahead = omega (arith, w .ahead, y .ahead);
         within = y .within;
+        above = λ j lo hi. by-lt j s
+            (λ g. holds-trans _ _ _ (joined-left _ _ (w .covers .numbers) (y .covers .numbers))
+            (from-self own boxes words n m (i + 1) s w j (omega (arith, lo)) g))
+            (λ g. holds-trans _ _ _ (joined-right _ _ (w .covers .numbers) (y .covers .numbers)) (from-self own boxes words n m s t y j g hi));
         covers = record { numbers = z .numbers; each = λ x lo hi. z .each x (omega (arith, lo, p, q, h)) hi };
       })
 
@@ -274,11 +295,13 @@ module _ (words : List ℕ) (n i v : ℕ) where
   pub started-kept : (m : ℕ) → Started words n m → Started after n m
   started-kept m M = record { order = order-kept (M .order); starts = starts-kept m (M .few) (M .starts); few = M .few; some = M .some }
 
-  node-kept : (own : ℕ → Bounds) (m j s : ℕ) (b : Bounds) → Started words n m → j < m → Node own words n m j b s → Node own after n m j b s
-  node-kept own m j s b M l w =
+  node-kept : (own : ℕ → Bounds) (boxes : List Float) (c : Bounds) (m j s : ℕ) (b : Bounds) → Started words n m → i ≤ j → j < m →
+      Node own boxes words n m j b s → Node own (putBox boxes i c) after n m j b s
+  node-kept own boxes c m j s b M h l w =
       record {
         ahead = w .ahead;
         within = w .within;
+        above = λ k lo hi. rw (put-other boxes i c k (omega (arith, h, lo))) (w .above k lo hi);
         covers = record {
           numbers = w .covers .numbers;
           each = λ x lo hi.
@@ -290,17 +313,17 @@ module _ (words : List ℕ) (n i v : ℕ) where
 
   pub filled-more : (own : ℕ → Bounds) (boxes : List Float) (m : ℕ) (b : Bounds) → 6 * i + 6 ≤ length boxes → 2 * n + 1 + i < length words →
       Started words n m →
-      i < m → Node own words n m i b v → Filled own boxes words n m (i + 1) → Filled own (putBox boxes i b) after n m i
+      i < m → Node own boxes words n m i b v → Filled own boxes words n m (i + 1) → Filled own (putBox boxes i b) after n m i
   filled-more own boxes m b R Q M li w F =
       record {
         each = λ j l k. by-lt i j
             (λ g. rw (put-other boxes i b j g, skip-same j (λ e. omega (arith, e, g)))
-            (node-kept own m j (skipAt words n j) (boxAt boxes j) M k (F .each j (omega (arith, g)) k)))
-            (λ g. let e : j ≡ i = omega (arith, g, l) in rw (e, put-same boxes i b R, skip-new Q) (node-kept own m i v b M li w));
+            (node-kept own boxes b m j (skipAt words n j) (boxAt boxes j) M l k (F .each j (omega (arith, g)) k)))
+            (λ g. let e : j ≡ i = omega (arith, g, l) in rw (e, put-same boxes i b R, skip-new Q) (node-kept own boxes b m i v b M (omega arith) li w));
       }
 
 pub filled-none : (own : ℕ → Bounds) (boxes : List Float) (words : List ℕ) (n m : ℕ) → Filled own boxes words n m m
-filled-none own boxes words n m = record { each = λ j l k. absurd {A = Node own words n m j (boxAt boxes j) (skipAt words n j)} (omega (arith, l, k)) }
+filled-none own boxes words n m = record { each = λ j l k. absurd {A = Node own boxes words n m j (boxAt boxes j) (skipAt words n j)} (omega (arith, l, k)) }
 
 pub filled-tree : (t : Part) (boxes : List Float) (words : List ℕ) (n m i : ℕ) → n ≡ t .polygons → 6 * m ≤ length boxes → 3 * n + 1 ≤ length words →
     Started words n m → i ≤ 0 → Filled (λ p. padded (ownBox t p)) boxes words n m i → PartTree t boxes words
@@ -316,6 +339,7 @@ filled-tree t boxes words n m i en R Q M z F =
             room-words = λ l. Q;
             ahead = λ j l. F .each j (omega (arith, z)) l .ahead;
             within = λ j l. F .each j (omega (arith, z)) l .within;
+            above = λ i j l a b. F .each i (omega (arith, z)) l .above j a b;
             holds = λ j x l a b. F .each j (omega (arith, z)) l .covers .each x a b;
           });
     }
@@ -349,6 +373,7 @@ no-tree t boxes words en e =
           room-words = λ l. absurd (omega (arith, l));
           ahead = λ i l. absurd (omega (arith, l));
           within = λ i l. absurd (omega (arith, l));
+          above = λ i j l. absurd (omega (arith, l));
           holds = λ i x l. absurd (omega (arith, l));
         }
 
@@ -373,18 +398,19 @@ unfolding startAt
 end-inside words n m i e M l q = omega (arith, q, M .starts .inside (i + 1) (omega (arith, l)))
 
 pub filled-at : (own : ℕ → Bounds) (boxes : List Float) (words : List ℕ) (n m i : ℕ) → Filled own boxes words n m i → i < m →
-    Node own words n m i (boxAt boxes i) (at words (2 * n + 1 + i))
+    Node own boxes words n m i (boxAt boxes i) (at words (2 * n + 1 + i))
 unfolding skipAt
 filled-at own boxes words n m i F l = F .each i (omega arith) l
 
-pub node-last : (own : ℕ → Bounds) (words : List ℕ) (n m i : ℕ) → i < m → (boxes : List Float) (a e : ℕ) (b d f : Bounds) (s u : ℕ) →
+pub node-last : (own : ℕ → Bounds) (boxes : List Float) (words : List ℕ) (n m i : ℕ) → i < m → (a e : ℕ) (b d f : Bounds) (s u : ℕ) →
     a ≡ at words (n + i) → e ≡ at words (n + (i + 1)) → e ≤ a → b ≡ boxAt boxes (i + 1) → s ≡ at words (2 * n + 1 + (i + 1)) →
-    d ≡ boxAt boxes s → u ≡ at words (2 * n + 1 + s) → f ≡ joined b d → Filled own boxes words n m (i + 1) → i + 1 < m → s < m → Node own words n m i f u
+    d ≡ boxAt boxes s → u ≡ at words (2 * n + 1 + s) → f ≡ joined b d → Filled own boxes words n m (i + 1) → i + 1 < m → s < m →
+    Node own boxes words n m i f u
 unfolding skipAt
-node-last own words n m i l boxes a e b d f s u p q h eb es ed eu ef F ls lt =
+node-last own boxes words n m i l a e b d f s u p q h eb es ed eu ef F ls lt =
     let y = filled-at own boxes words n m (i + 1) F ls in
     let z = F .each s (omega (arith, es, y .ahead)) lt in
-    node-two own words n m i l a e b d f s u u p q h ef refl (rw (eb, es) y) (rw (ed, eu) z)
+    node-two own boxes words n m i l a e f s u p q h (ef ∙ rw (eb, ed)) (rw es y) (rw eu z)
 
 pub filled-back : (own : ℕ → Bounds) (boxes : List Float) (words : List ℕ) (n m i : ℕ) → 0 < i → Filled own boxes words n m i →
     Filled own boxes words n m (i - 1 + 1)
@@ -393,7 +419,7 @@ filled-back own boxes words n m i l F = let e : i - 1 + 1 ≡ i = omega arith in
 pub fill-step : (own : ℕ → Bounds) (boxes boxes₁ boxes₀ : List Float) (words words₁ words₀ : List ℕ) (n m i : ℕ) (b : Bounds) (v : ℕ) → 0 < i →
     i ≤ m →
     length boxes ≡ length boxes₀ → length words ≡ length words₀ → 6 * m ≤ length boxes₀ → 3 * n + 1 ≤ length words₀ → Started words n m →
-    Filled own boxes words n m i → Node own words n m (i - 1) b v → boxes₁ ≡ putBox boxes (i - 1) b → words₁ ≡ set words (2 * n + 1 + (i - 1)) v →
+    Filled own boxes words n m i → Node own boxes words n m (i - 1) b v → boxes₁ ≡ putBox boxes (i - 1) b → words₁ ≡ set words (2 * n + 1 + (i - 1)) v →
     (i - 1 ≤ m) × ((length boxes₁ ≡ length boxes₀) × ((length words₁ ≡ length words₀) × (Started words₁ n m × Filled own boxes₁ words₁ n m (i - 1))))
 fill-step own boxes boxes₁ boxes₀ words words₁ words₀ n m i b v l h eb ew R Q M F w e f = (
   omega (arith, h),

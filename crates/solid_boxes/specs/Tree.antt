@@ -71,7 +71,9 @@ pub record Tree (own : ℕ → Bounds) (boxes : List Float) (words : List ℕ) (
   pub room-words : 0 < m → 3 * n + 1 ≤ length words
   pub ahead : (i : ℕ) → i < m → i < skipAt words n i
   pub within : (i : ℕ) → i < m → skipAt words n i ≤ m
-  -- a node's box holds the own box of each polygon of the node and of the nodes below it
+  -- "A box above another holds its lowest and highest coordinates": the boxes of the nodes below ..
+  pub above : (i j : ℕ) → i < m → i < j → j < skipAt words n i → Holds (boxAt boxes i) (boxAt boxes j)
+  -- .. and the own boxes of the polygons of the node and of the nodes below
   pub holds : (i x : ℕ) → i < m → startAt words n i ≤ x → x < startAt words n (skipAt words n i) → Holds (boxAt boxes i) (own (at words x))
 
 -- the tree of a part: its boxes, and those that they hold, as the slab formula takes them

@@ -45,12 +45,13 @@ pub record Covers (own : ℕ → Bounds) (order : ℕ → ℕ) (a e : ℕ) (b : 
   pub numbers : Holds b b
   pub each : (x : ℕ) → a ≤ x → x < e → Holds b (own (order x))
 
--- node i with the box b and the skip s
-pub record Node (own : ℕ → Bounds) (words : List ℕ) (n m i : ℕ) (b : Bounds) (s : ℕ) : Type 0 where
+-- node i with the box b and the skip s, the nodes after it being put
+pub record Node (own : ℕ → Bounds) (boxes : List Float) (words : List ℕ) (n m i : ℕ) (b : Bounds) (s : ℕ) : Type 0 where
   pub ahead : i < s
   pub within : s ≤ m
+  pub above : (j : ℕ) → i < j → j < s → Holds b (boxAt boxes j)
   pub covers : Covers own (at words) (startAt words n i) (startAt words n s) b
 
 -- the nodes from i on
 pub record Filled (own : ℕ → Bounds) (boxes : List Float) (words : List ℕ) (n m i : ℕ) : Type 0 where
-  pub each : (j : ℕ) → i ≤ j → j < m → Node own words n m j (boxAt boxes j) (skipAt words n j)
+  pub each : (j : ℕ) → i ≤ j → j < m → Node own boxes words n m j (boxAt boxes j) (skipAt words n j)

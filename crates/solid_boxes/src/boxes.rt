@@ -80,7 +80,7 @@ fn node_of(
     requires { ⌜ Checked (now file) ⌝ ∗ ⌜ vertices ≡ vertexCount (now file) ⌝ ∗ ⌜ n ≡ polygonCount (now file) ⌝ }
     requires { ⌜ Started (now words) n m ⌝ ∗ ⌜ 6 * m ≤ length (now boxes) ⌝ ∗ ⌜ 3 * n + 1 ≤ length (now words) ⌝ ∗ ⌜ i < m ⌝ }
     requires { ⌜ Filled (λ p. padded (ownBox (partOf (now file)) p)) (now boxes) (now words) n m (i + 1) ⌝ }
-    ensures { λ r. ⌜ Node (λ p. padded (ownBox (partOf (now (file .entry))) p)) (now (words .entry)) n m i (r .bounds) (r .skip) ⌝ }
+    ensures { λ r. ⌜ Node (λ p. padded (ownBox (partOf (now (file .entry))) p)) (now (boxes .entry)) (now (words .entry)) n m i (r .bounds) (r .skip) ⌝ }
 {
     let s = i + 1;
     let a = cell(words, n + i);

@@ -29,11 +29,11 @@ leaf-box-requires : tie.Need-leaf-box-requires
 leaf-box-requires c κs = (c .before .before .before .before .before .before .pre .0, (c .before .before .before .before .before .before .pre .1 .0, (subst (Order (now (c .before .before .before .before .before .before .args .words))) (c .before .before .before .before .before .before .pre .1 .1 .0) (c .before .before .before .before .before .before .pre .1 .1 .1 .0 .order), (c .if1 .taken, omega (arith, c .before .before .before .before .before .before .pre .1 .1 .0, end-inside _ _ _ _ _ (c .before .before .before .before .before .before .pre .1 .1 .1 .0) (c .before .before .before .before .before .before .pre .1 .1 .1 .1 .1 .1 .0) (c .before .cell2 .ensures))))))
 
 returns : tie.Need-returns
-returns c = node-leaf _ _ _ _ _ (c .before .before .before .before .before .before .before .pre .1 .1 .1 .1 .1 .1 .0) _ _ _ (c .before .before .before .cell .ensures) (c .before .before .cell2 .ensures) (c .leaf-box .ensures)
+returns c = node-leaf _ _ _ _ _ _ (c .before .before .before .before .before .before .before .pre .1 .1 .1 .1 .1 .1 .0) _ _ _ (c .before .before .before .cell .ensures) (c .before .before .cell2 .ensures) (c .leaf-box .ensures)
 
 returns-2 : tie.Need-returns-2
 unfolding zeroVec
-returns-2 c = node-none _ _ _ _ _ (c .before .before .before .before .before .before .before .pre .1 .1 .1 .1 .1 .1 .0) _ _ _ (c .before .before .before .cell .ensures) (c .before .before .cell2 .ensures) (c .before .if1 .left) zero-self
+returns-2 c = node-none _ _ _ _ _ _ (c .before .before .before .before .before .before .before .pre .1 .1 .1 .1 .1 .1 .0) _ _ _ (c .before .before .before .cell .ensures) (c .before .before .cell2 .ensures) (c .before .if1 .left) zero-self
 
 mul-skips : tie.Need-mul-skips
 mul-skips c = search (needs, small-count _ (c .before .before .before .before .before .before .before .pre .0) _ (c .before .before .before .before .before .before .before .pre .1 .1 .0), c .before .before .before .before .before .before .before .pre .1 .1 .1 .1 .1 .1 .0, c .before .before .before .before .before .before .before .pre .1 .1 .1 .0 .few)
@@ -51,7 +51,7 @@ cell-requires-3 : tie.Need-cell-requires-3
 cell-requires-3 c κs = omega (arith, c .before .before .before .before .before .before .before .before .pre .1 .1 .1 .1 .1 .0, c .before .if2 .left, c .before .before .before .before .before .before .before .before .pre .1 .1 .1 .0 .few)
 
 returns-3 : tie.Need-returns-3
-returns-3 c = node-one _ _ _ _ _ (c .before .before .before .before .before .before .before .before .before .before .pre .1 .1 .1 .1 .1 .1 .0) _ _ _ _ _ _ (c .before .before .before .before .before .before .cell .ensures) (c .before .before .before .before .before .cell2 .ensures) (c .before .before .before .before .if1 .left) (c .before .before .box-at .ensures) (c .before .cell3 .ensures) (filled-at _ _ _ _ _ _ (c .before .before .before .before .before .before .before .before .before .before .pre .1 .1 .1 .1 .1 .1 .1) (c .before .before .before .if2 .left))
+returns-3 c = node-one _ _ _ _ _ _ (c .before .before .before .before .before .before .before .before .before .before .pre .1 .1 .1 .1 .1 .1 .0) _ _ _ _ _ (c .before .before .before .before .before .before .cell .ensures) (c .before .before .before .before .before .cell2 .ensures) (c .before .before .before .before .if1 .left) (c .before .before .box-at .ensures) (c .before .cell3 .ensures) (filled-at _ _ _ _ _ _ (c .before .before .before .before .before .before .before .before .before .before .pre .1 .1 .1 .1 .1 .1 .1) (c .before .before .before .if2 .left))
 
 box-at-requires-2 : tie.Need-box-at-requires-2
 box-at-requires-2 c κs = omega (arith, c .before .before .before .before .before .before .before .before .before .before .pre .1 .1 .1 .1 .0, c .if3 .left)
@@ -63,7 +63,7 @@ cell-requires-4 : tie.Need-cell-requires-4
 cell-requires-4 c κs = omega (arith, c .before .before .before .before .before .before .before .before .before .before .before .pre .1 .1 .1 .1 .1 .0, c .before .if3 .left, c .before .before .before .before .before .before .before .before .before .before .before .pre .1 .1 .1 .0 .few)
 
 returns-4 : tie.Need-returns-4
-returns-4 c = node-last _ _ _ _ _ (c .before .before .before .before .before .before .before .before .before .before .before .before .before .pre .1 .1 .1 .1 .1 .1 .0) _ _ _ _ _ _ _ _ (c .before .before .before .before .before .before .before .before .before .cell .ensures) (c .before .before .before .before .before .before .before .before .cell2 .ensures) (c .before .before .before .before .before .before .before .if1 .left) (c .before .before .before .before .before .box-at .ensures) (c .before .before .before .before .cell3 .ensures) (c .before .before .box-at2 .ensures) (c .before .cell4 .ensures) (c .join .ensures) (c .before .before .before .before .before .before .before .before .before .before .before .before .before .pre .1 .1 .1 .1 .1 .1 .1) (c .before .before .before .before .before .before .if2 .left) (c .before .before .before .if3 .left)
+returns-4 c = node-last _ _ _ _ _ _ (c .before .before .before .before .before .before .before .before .before .before .before .before .before .pre .1 .1 .1 .1 .1 .1 .0) _ _ _ _ _ _ _ (c .before .before .before .before .before .before .before .before .before .cell .ensures) (c .before .before .before .before .before .before .before .before .cell2 .ensures) (c .before .before .before .before .before .before .before .if1 .left) (c .before .before .before .before .before .box-at .ensures) (c .before .before .before .before .cell3 .ensures) (c .before .before .box-at2 .ensures) (c .before .cell4 .ensures) (c .join .ensures) (c .before .before .before .before .before .before .before .before .before .before .before .before .before .pre .1 .1 .1 .1 .1 .1 .1) (c .before .before .before .before .before .before .if2 .left) (c .before .before .before .if3 .left)
 
 pub node-of-spec : {M : Type 1} → statement M
 node-of-spec =
