@@ -1,0 +1,4 @@
+-- What a ray strikes where a polygon counts only inside its own box.
+pub mod Slab
+pub mod Strikes
+pub mod Work
