@@ -1,6 +1,7 @@
 -- The laws on the faces of a line:
 -- TextLaws     ids as text, one after another
 -- SomeLaws     whether some number below n passes a test
+-- SearchLaws   the next wanted place of a row of cells
 -- MarkLaws     marks, one face after another
 -- CellLaws     the marks of a row and of a line, by the cells of the scratch
 -- IdsLaws      the ids of the faces that pass a test, by rank
@@ -8,6 +9,7 @@
 -- LineLaws     the faces of a line
 pub mod TextLaws
 pub mod SomeLaws
+pub mod SearchLaws
 pub mod MarkLaws
 pub mod CellLaws
 pub mod IdsLaws

@@ -1,5 +1,6 @@
 -- The faces of a line, and their text.
 pub mod Text
+pub mod Search
 pub mod Marks
 pub mod Named
 pub mod Ready

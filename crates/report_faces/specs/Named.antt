@@ -1,6 +1,5 @@
 -- Which faces a fault row names, by the cells of the scratch. A reader may pass over it: what a fault's faces are, fault_text's Meaning says.
-use mathlib.Core.Path.{_≡_}
-use mathlib.Core.Bool.{Bool, true, false, _&&_, _||_, cond}
+use mathlib.Core.Bool.{Bool, false, _&&_, _||_, cond}
 use mathlib.Core.List.{List, [], _∷_}
 use Prim.Native.Nat.{ℕ, _+_, _*_, _≤_, _<_}
 use lib.Dec.{eqb, ltb}
@@ -17,7 +16,7 @@ use Rattle.fault_row.specs.declared.row.Row.{Row}
 use Rattle.fault_row.specs.Row.{rowAt}
 use Rattle.fault_text.specs.Kind.{notOneThickness, overhang, enclosedHollowSla, enclosedHollowSls}
 use Rattle.fault_text.specs.Meaning.{isOfTwo, isOfOne}
-use Rattle.report_faces.specs.Marks.{Ranks, isSame, isEither, isFlagged, isOfBody}
+use Rattle.report_faces.specs.Marks.{Ranks, isSame, isEither}
 
 -- the kinds whose faces are found from the part
 unfoldable pub isMany : ℕ → Bool

@@ -1,6 +1,6 @@
 // The faces of a line.
 ghost use mathlib.Core.Path.{_≡_};
-ghost use Prim.Native.Nat.{_*_, _≤_, _<_};
+ghost use Prim.Native.Nat.{_*_, _<_};
 ghost use lib.ListN.{length};
 ghost use Rattle.num_text.specs.Put.{Put};
 ghost use Rattle.file_part.specs.Part.{partOf};

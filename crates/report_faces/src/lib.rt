@@ -2,3 +2,4 @@
 pub mod faces;
 mod ids;
 pub mod marks;
+mod search;
