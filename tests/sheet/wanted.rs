@@ -1,18 +1,17 @@
 //! What the comparison is to see, and how often each of it occurs in a part.
-use crate::compare::{Rules, Slices};
 use crate::counts::{Counts, SMALL};
 use crate::field::word;
-use crate::gablemadder;
+use crate::frame::Rules;
 use crate::ids::Id;
 use crate::jobs;
 use crate::mesh::Mesh;
 use crate::steps::Steps;
-use oracle::faults::{DfmReport, Finding, Part, Process};
+use oracle::faults::{DfmReport, Finding, Part};
 use oracle::measures::Measures;
 use std::collections::HashSet;
 
 /// What is to occur, and how often at the least.
-const WANTED: [(&str, u64); 78] = [
+const WANTED: [(&str, u64); 77] = [
     ("accepted", 150_000),
     ("refused 1 to 7", 300),
     ("refused 8", 300),
@@ -40,7 +39,6 @@ const WANTED: [(&str, u64); 78] = [
     ("4 bends", 300),
     ("5 bends", 300),
     ("6 bends", 300),
-    ("a job of another process", 1_000),
     ("a plastic with a ratio", 300),
     ("a metal without a ratio", 300),
     ("ratio 0", 300),
@@ -124,21 +122,7 @@ pub const CHANGES: [(&str, u64); 8] = [
 pub struct Sheet;
 
 impl Rules for Sheet {
-    const FIRST_KIND: u32 = 8;
-    const SUMMARY: usize = 3;
-
-    fn process(_: &[u8]) -> Process {
-        Process::SheetMetal
-    }
-
-    fn call(file: &[u8], lent: Slices) -> u32 {
-        gablemadder::sheet_metal(file, lent.words, lent.reals, lent.cells, lent.numbers, lent.summary)
-    }
-
-    /// Whether there is a thickness, it, and the bends.
-    fn summary(report: &DfmReport) -> Vec<f64> {
-        vec![f64::from(u8::from(report.thickness.is_some())), report.thickness.unwrap_or(0.0), report.bends as f64]
-    }
+    const PROCESSES: &'static [u32] = &[1];
 
     fn wanted() -> Counts {
         Counts::wanted(&[&WANTED[..], &CHANGES[..]].concat(), &LIMITS)
@@ -148,7 +132,6 @@ impl Rules for Sheet {
         counts.findings(mesh, faces, &report.findings);
         let near_a_bend = report.findings.iter().filter(|f| f.message.contains(" from a bend;")).count();
         counts.add("a hole too close to a bend", near_a_bend as u64);
-        counts.add("a job of another process", u64::from(word(&mesh.job, 0) != 1));
         counts.add("a thickness", u64::from(report.thickness.is_some()));
         if report.thickness.is_some() && report.bends <= 6 {
             counts.add(["no bend", "1 bend", "2 bends", "3 bends", "4 bends", "5 bends", "6 bends"][report.bends], 1);

@@ -1,11 +1,10 @@
 //! What the comparison is to see, and how often each of it occurs in a part.
-use crate::compare::{Rules, Slices};
 use crate::counts::{Counts, SMALL};
 use crate::field::{real, word};
-use crate::gablemadder;
+use crate::frame::Rules;
 use crate::ids::Id;
 use crate::mesh::Mesh;
-use oracle::faults::{DfmReport, Part, Process};
+use oracle::faults::{DfmReport, Part};
 use oracle::lists::Lists;
 use oracle::math::Vec3;
 use oracle::measures::{Measures, Round};
@@ -42,8 +41,17 @@ const WANTED: [(&str, u64); 25] = [
 ];
 
 /// Each occurs on the limit, one f64 below it and one above.
-const LIMITS: [&str; 9] =
-    ["wall", "half a wall", "hole of 1 mm", "10 diameters", "4 diameters", "radius of 0.5 mm", "4 tool diameters", "cosine of 0.99", "centroid at 1e-9"];
+const LIMITS: [&str; 9] = [
+    "wall",
+    "half a wall",
+    "hole of 1 mm",
+    "10 diameters",
+    "4 diameters",
+    "radius of 0.5 mm",
+    "4 tool diameters",
+    "cosine of 0.99",
+    "centroid at 1e-9",
+];
 
 /// A concave segment of two faces: its middle and the normals, by rising id.
 #[derive(Clone, Copy)]
@@ -52,24 +60,10 @@ struct Corner {
     normals: [Vec3; 2],
 }
 
-/// The rules of machining, which have no summary.
 pub struct Machining;
 
 impl Rules for Machining {
-    const FIRST_KIND: u32 = 1;
-    const SUMMARY: usize = 0;
-
-    fn process(_: &[u8]) -> Process {
-        Process::CncMachining
-    }
-
-    fn call(file: &[u8], lent: Slices) -> u32 {
-        gablemadder::machining(file, lent.words, lent.reals, lent.cells, lent.numbers)
-    }
-
-    fn summary(_: &DfmReport) -> Vec<f64> {
-        Vec::new()
-    }
+    const PROCESSES: &'static [u32] = &[0];
 
     fn wanted() -> Counts {
         Counts::wanted(&WANTED, &LIMITS)

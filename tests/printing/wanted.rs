@@ -1,15 +1,13 @@
 //! What the comparison is to see, and how often each of it occurs in a part.
-use crate::compare::{Rules, Slices};
 use crate::counts::{Counts, SMALL};
-use crate::field::{set_word, word, Blocks};
-use crate::gablemadder;
+use crate::field::word;
+use crate::frame::Rules;
 use crate::ids::Id;
 use crate::jobs::{self, Print};
 use crate::mesh::Mesh;
 use crate::steps::Steps;
 use crate::ups;
-use oracle::faults::{DfmReport, Part, Process};
-use std::borrow::Cow;
+use oracle::faults::{DfmReport, Part};
 
 /// What is to occur, and how often at the least.
 const WANTED: [(&str, u64); 84] = [
@@ -134,37 +132,7 @@ const CHANGES: [(&str, u64); 7] = [
 pub struct Printing;
 
 impl Rules for Printing {
-    const FIRST_KIND: u32 = 16;
-    const SUMMARY: usize = 2;
-
-    fn process(job: &[u8]) -> Process {
-        jobs::process(job)
-    }
-
-    /// The text of a fault and what hollows do hang on the job's process: a file of another is given one of the three.
-    fn taken(file: &[u8], number: u64) -> Cow<'_, [u8]> {
-        match Blocks::of(file) {
-            Some(blocks) if word(file, blocks.job()) < 2 => {
-                let mut copy = file.to_vec();
-                set_word(&mut copy, blocks.job(), 2 + (number % 3) as u32);
-                Cow::Owned(copy)
-            }
-            _ => Cow::Borrowed(file),
-        }
-    }
-
-    fn always_marks(job: &[u8]) -> bool {
-        Print::of(job).overhang.is_some()
-    }
-
-    fn call(file: &[u8], lent: Slices) -> u32 {
-        gablemadder::printing(file, lent.words, lent.reals, lent.cells, lent.numbers, lent.summary)
-    }
-
-    /// Whether there is a height, and it.
-    fn summary(report: &DfmReport) -> Vec<f64> {
-        vec![f64::from(u8::from(report.height.is_some())), report.height.unwrap_or(0.0)]
-    }
+    const PROCESSES: &'static [u32] = &jobs::PROCESSES;
 
     fn wanted() -> Counts {
         Counts::wanted(&[&WANTED[..], &CHANGES[..]].concat(), &LIMITS)
