@@ -1,6 +1,7 @@
 //! Times from part file to report beside the Rust's, with the replacements and as published: the reader of part files, the check and the printing,
-//! all in the time. And of merging and printing about 2,048 faults, in few lines and in many: ours is the time of the check less that of finding the
-//! faults, the Rust's is taken by itself. Each time is the best of many, taken in turn in one run.
+//! all in the time. And of merging and printing about 2,048 faults, in few lines and in many: ours is the time of the check less that of a check which
+//! is lent one fault row too few, so that it finds all faults and is refused before it merges them; the Rust's is taken by itself. Each time is the best
+//! of many, taken in turn in one run. A word names the benchmark: machining, sheet and printing time the parts of their processes alone.
 #[path = "../lib/best.rs"]
 mod best;
 #[path = "../rays/bores.rs"]
@@ -15,12 +16,11 @@ mod file;
 #[path = "../lib/gablemadder.rs"]
 mod gablemadder;
 #[path = "../sheet/parts.rs"]
-#[allow(dead_code)]
 mod holes;
 #[path = "../oracle/generate/job.rs"]
 #[allow(dead_code)]
 mod job;
-#[path = "../body/mesh.rs"]
+#[path = "../shapes/mesh.rs"]
 mod mesh;
 #[path = "../oracle/generate/part.rs"]
 #[allow(dead_code)]
@@ -28,8 +28,9 @@ mod part;
 #[path = "../oracle/generate/plate.rs"]
 #[allow(dead_code)]
 mod plate;
+#[path = "../machining/plates.rs"]
+mod plates;
 #[path = "../printing/parts.rs"]
-#[allow(dead_code)]
 mod prints;
 #[path = "../lib/random.rs"]
 mod random;
@@ -38,7 +39,7 @@ mod random;
 mod ring;
 #[path = "../part/sample.rs"]
 mod sample;
-#[path = "../body/shapes.rs"]
+#[path = "../shapes/shapes.rs"]
 mod shapes;
 #[path = "../oracle/generate/sheet.rs"]
 #[allow(dead_code)]
@@ -55,7 +56,7 @@ mod timed;
 
 use best::best_of;
 use field::Blocks;
-use job::{CNC, PROCESSES};
+use job::{CNC, FDM, PROCESSES, SHEET, SLA, SLS};
 use oracle::check::Checked;
 use std::hint::black_box;
 use timed::Timed;
@@ -95,14 +96,10 @@ impl Lent {
         written
     }
 
-    /// The faults alone, before equal ones are merged: 1,000 and their number.
-    fn find(&mut self, part: &Timed) -> u32 {
-        let (words, reals, cells, numbers) = (&mut self.words, &mut self.reals, &mut self.cells, &mut self.numbers);
-        if part.process == CNC {
-            gablemadder::machining(&part.file, words, reals, cells, numbers)
-        } else {
-            gablemadder::printing(&part.file, words, reals, cells, numbers, &mut [0.0; 2])
-        }
+    /// Lent one row too few for so many faults: refusal 11, once all are found.
+    fn find(&mut self, file: &[u8], faults: usize) -> u32 {
+        let (cells, numbers) = (&mut self.cells[..6 * (faults - 1)], &mut self.numbers[..3 * (faults - 1)]);
+        gablemadder::check(file, &mut self.words, &mut self.reals, cells, numbers, &mut self.report, &mut 0)
     }
 
     fn is_same(&mut self, part: &Timed, checked: &Checked) {
@@ -154,7 +151,7 @@ fn merging(part: &Timed) -> f64 {
     let mut lent = Lent::new(&checked);
     let mut other = Lent::new(&checked);
     lent.is_same(part, &checked);
-    assert_eq!(lent.find(part) as usize, 1000 + checked.faults, "{}: the number of faults", part.name);
+    assert_eq!(lent.find(file, checked.faults), 11, "{}: a row too few", part.name);
     let process = oracle::faults::Process::ALL[part.process as usize];
     let found = oracle::faults::Part::read(file).ok().expect("an accepted file").report(process);
     let rounds = 60;
@@ -168,7 +165,7 @@ fn merging(part: &Timed) -> f64 {
                 black_box(lent.check(black_box(file)));
             },
             &mut || {
-                black_box(other.find(black_box(part)));
+                black_box(other.find(black_box(file), checked.faults));
             },
             &mut || drop(black_box(oracle::check::printed(copies.pop().expect("one for each round")))),
         ],
@@ -188,17 +185,27 @@ fn merging(part: &Timed) -> f64 {
 }
 
 fn main() {
-    let many = timed::of_many_faults();
-    let ratios: Vec<(usize, [f64; 2])> = timed::by_size().iter().chain(&many).map(whole).collect();
-    let merged: Vec<f64> = many.iter().map(merging).collect();
+    let name = std::env::args().nth(1).expect("the name of a benchmark");
+    let (processes, many): (&[u32], Vec<Timed>) = match &name[..] {
+        "machining" => (&[CNC], Vec::new()),
+        "sheet" => (&[SHEET], Vec::new()),
+        "printing" => (&[FDM, SLA, SLS], Vec::new()),
+        _ => (&[CNC, SHEET, FDM, SLA, SLS], timed::of_many_faults()),
+    };
+    let parts = timed::by_size().into_iter().filter(|part| processes.contains(&part.process));
+    let ratios: Vec<(usize, [f64; 2])> = parts.chain(many.iter().cloned()).map(|part| whole(&part)).collect();
     let most = |list: &mut dyn Iterator<Item = f64>| list.fold(0.0, f64::max);
     let slower = ratios.iter().filter(|r| r.1[0] > 1.0).count();
+    let merged = if many.is_empty() {
+        String::new()
+    } else {
+        format!("; merging and printing at most {:.2} times", most(&mut many.iter().map(merging)))
+    };
     println!(
-        "check: at most {:.2} times the Rust's time with the replacements, slower in {slower} of {}; below {SMALL} polygons at most {:.2} times as \
-         published; merging and printing at most {:.2} times",
+        "{name}: at most {:.2} times the Rust's time with the replacements, slower in {slower} of {}; below {SMALL} polygons at most {:.2} times as \
+         published{merged}",
         most(&mut ratios.iter().map(|r| r.1[0])),
         ratios.len(),
         most(&mut ratios.iter().filter(|r| r.0 < SMALL).map(|r| r.1[1])),
-        most(&mut merged.into_iter())
     );
 }

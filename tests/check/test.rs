@@ -5,7 +5,7 @@ mod bores;
 #[path = "../sheet/brackets.rs"]
 #[allow(dead_code)]
 mod brackets;
-#[path = "../body/change.rs"]
+#[path = "../shapes/change.rs"]
 mod change;
 #[path = "../part/damage.rs"]
 #[allow(dead_code)]
@@ -40,11 +40,10 @@ mod jobs;
 #[path = "../part/large.rs"]
 mod large;
 #[path = "../lib/lent.rs"]
-#[allow(dead_code)]
 mod lent;
 #[path = "../machining/limits.rs"]
 mod machining;
-#[path = "../body/mesh.rs"]
+#[path = "../shapes/mesh.rs"]
 mod mesh;
 #[path = "../printing/over.rs"]
 #[allow(dead_code)]
@@ -62,9 +61,9 @@ mod random;
 mod ring;
 #[path = "../part/sample.rs"]
 mod sample;
-#[path = "../body/scratch.rs"]
+#[path = "../lib/scratch.rs"]
 mod scratch;
-#[path = "../body/shapes.rs"]
+#[path = "../shapes/shapes.rs"]
 mod shapes;
 #[path = "../oracle/generate/sheet.rs"]
 #[allow(dead_code)]

@@ -1,4 +1,5 @@
-//! Parts to time, each with a name: of about 6, 200, 800, 3,200 and 4,000 polygons for each process, and parts of about 2,048 faults.
+//! Parts to time, each with a name: those of machining, sheet metal and printing, of about 6, 200, 800, 3,200 and 4,000 polygons, and parts of about
+//! 2,048 faults.
 use crate::file;
 use crate::holes;
 use crate::job::{Job, CNC, FDM, SHEET, SLA, SLS};
@@ -6,51 +7,43 @@ use crate::many;
 use crate::mesh::Mesh;
 use crate::part::Part;
 use crate::plate::{cuts, plate, slab, Cell};
+use crate::plates;
 use crate::prints;
 use crate::ring::Ring;
 
 const WIDTH: f64 = 10.0;
 
+#[derive(Clone)]
 pub struct Timed {
     pub name: String,
     pub process: u32,
     pub file: Vec<u8>,
 }
 
-impl Timed {
-    fn new(process: u32, (name, part): (String, Part)) -> Timed {
-        Timed { name, process, file: file::bytes(&part, &Job::defaults(process)) }
-    }
+fn of_process(process: u32, parts: Vec<(String, Vec<u8>)>) -> impl Iterator<Item = Timed> {
+    parts.into_iter().map(move |(name, file)| Timed { name, process, file })
 }
 
-fn thin_plate() -> (String, Part) {
+fn thin_plate(process: u32) -> Timed {
     let mut part = Part::default();
     part.block(1, [0.0; 3], [20.0, 20.0, 0.5]);
-    ("a thin plate".into(), part)
+    Timed { name: "a thin plate".into(), process, file: file::bytes(&part, &Job::defaults(process)) }
 }
 
 /// A sheet of 2 mm with holes, of which one in three is small.
-fn with_holes(nx: usize, ny: usize) -> (String, Part) {
+fn with_holes((nx, ny): (usize, usize)) -> Timed {
     let (xs, ys) = (cuts(&vec![WIDTH; nx]), cuts(&vec![WIDTH; ny]));
     let hole = |k: usize| Cell::Through(Ring::circle((xs[k / ny] + 5.0, ys[k % ny] + 5.0), [0.9, 1.5, 2.0][k % 3], 32));
     let mut part = Part::default();
     plate(&mut part, &slab(1, 0.0, 2.0, (64, 64)), &xs, &ys, &(0..nx * ny).map(hole).collect::<Vec<_>>());
-    (format!("a sheet with {} holes", nx * ny), part)
+    Timed { name: format!("a sheet with {} holes", nx * ny), process: SHEET, file: file::bytes(&part, &Job::defaults(SHEET)) }
 }
 
 pub fn by_size() -> Vec<Timed> {
-    let mut list: Vec<Timed> = [CNC, SHEET, FDM, SLA].map(|process| Timed::new(process, thin_plate())).into();
-    for (nx, ny) in [(2, 2), (3, 7), (6, 14), (7, 15)] {
-        list.extend([CNC, FDM, SLA].map(|process| Timed::new(process, prints::with_cells(nx, ny))));
-    }
-    list.extend([33, 133, 533, 666].map(|count| Timed::new(SLA, prints::with_hollows(count))));
-    list.extend([(1, 2), (2, 4), (3, 11), (3, 14)].map(|(nx, ny)| Timed::new(SHEET, with_holes(nx, ny))));
-    for (bends, cells, holes) in [(0, 4, 4), (0, 16, 16), (0, 64, 64), (2, 3, 3), (4, 6, 10), (6, 20, 40), (6, 56, 8)] {
-        let name = if bends == 0 { "a strip".into() } else { format!("a bracket of {bends} bends") };
-        let file = holes::Plan { bends, cells, holes, slots: false }.file();
-        list.push(Timed { name: format!("{name} with {holes} holes"), process: SHEET, file });
-    }
-    list
+    let plates = [CNC, SHEET, FDM, SLA, SLS].map(thin_plate).into_iter();
+    let sheets = [(1, 2), (2, 4), (3, 11), (3, 14)].map(with_holes).into_iter();
+    let printed = [FDM, SLA, SLS].into_iter().flat_map(|process| of_process(process, prints::all(process)));
+    plates.chain(of_process(CNC, plates::all())).chain(sheets).chain(of_process(SHEET, holes::all())).chain(printed).collect()
 }
 
 /// About as many faults as there may be, in few lines and in many.

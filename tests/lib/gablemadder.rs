@@ -1,4 +1,4 @@
-//! The functions of `crates/exports`, and those of the probes (`crates/probe_*`), as Rust sees them. Nothing checks these declarations against the
+//! The functions of `crates/exports`, and those of `crates/probe`, as Rust sees them. Nothing checks these declarations against the
 //! Rattle source, so they are few and plain: numbers pass as themselves, a slice as a pointer and a length. A test links the libraries that it calls.
 #![allow(dead_code)]
 
@@ -35,10 +35,6 @@ mod c {
         pub fn gablemadder_put_hex(out: *mut u8, len: usize, at: usize, bits: u64) -> usize;
         pub fn gablemadder_put_thousandths(out: *mut u8, len: usize, at: usize, n: u64) -> usize;
         pub fn gablemadder_put_decimal(out: *mut u8, len: usize, at: usize, x: f64, places: u32) -> usize;
-        pub fn gablemadder_part_verdict(file: *const u8, len: usize) -> u32;
-        pub fn gablemadder_body(file: *const u8, len: usize, words: *mut u32, words_len: usize, reals: *mut f64, reals_len: usize) -> u32;
-        pub fn gablemadder_shared_segments(file: *const u8, len: usize, mem: *mut u32, mem_len: usize) -> u32;
-        pub fn gablemadder_bodies(file: *const u8, len: usize, mem: *mut u32, mem_len: usize) -> u32;
         pub fn gablemadder_sample_list(
             file: *const u8,
             len: usize,
@@ -50,28 +46,6 @@ mod c {
             faces_len: usize,
             numbers: *mut f64,
             numbers_len: usize,
-        ) -> u32;
-        pub fn gablemadder_round_list(
-            file: *const u8,
-            len: usize,
-            words: *mut u32,
-            words_len: usize,
-            reals: *mut f64,
-            reals_len: usize,
-            faces: *mut u32,
-            faces_len: usize,
-            numbers: *mut f64,
-            numbers_len: usize,
-        ) -> u32;
-        pub fn gablemadder_rough(
-            file: *const u8,
-            len: usize,
-            words: *mut u32,
-            words_len: usize,
-            reals: *mut f64,
-            reals_len: usize,
-            out: *mut f64,
-            out_len: usize,
         ) -> u32;
         pub fn gablemadder_open_towards(
             file: *const u8,
@@ -99,56 +73,6 @@ mod c {
             times: *mut f64,
             times_len: usize,
         ) -> u32;
-        pub fn gablemadder_machining(
-            file: *const u8,
-            len: usize,
-            words: *mut u32,
-            words_len: usize,
-            reals: *mut f64,
-            reals_len: usize,
-            cells: *mut u32,
-            cells_len: usize,
-            numbers: *mut f64,
-            numbers_len: usize,
-        ) -> u32;
-        pub fn gablemadder_sheet_metal(
-            file: *const u8,
-            len: usize,
-            words: *mut u32,
-            words_len: usize,
-            reals: *mut f64,
-            reals_len: usize,
-            cells: *mut u32,
-            cells_len: usize,
-            numbers: *mut f64,
-            numbers_len: usize,
-            summary: *mut f64,
-            summary_len: usize,
-        ) -> u32;
-        pub fn gablemadder_printing(
-            file: *const u8,
-            len: usize,
-            words: *mut u32,
-            words_len: usize,
-            reals: *mut f64,
-            reals_len: usize,
-            cells: *mut u32,
-            cells_len: usize,
-            numbers: *mut f64,
-            numbers_len: usize,
-            summary: *mut f64,
-            summary_len: usize,
-        ) -> u32;
-        pub fn gablemadder_message(
-            file: *const u8,
-            len: usize,
-            cells: *const u32,
-            cells_len: usize,
-            numbers: *const f64,
-            numbers_len: usize,
-            out: *mut u8,
-            out_len: usize,
-        ) -> usize;
     }
 }
 
@@ -208,6 +132,11 @@ pub fn check(file: &[u8], words: &mut [u32], reals: &mut [f64], cells: &mut [u32
     unsafe { c::gablemadder_check(file.as_ptr(), file.len(), w, words, r, reals, c, cells, n, numbers, o, report.len(), written) }
 }
 
+/// The refusal from 1 to 9 that turns a part file back, or 10: it is lent nothing.
+pub fn refusal(file: &[u8]) -> u32 {
+    check(file, &mut [], &mut [], &mut [], &mut [], &mut [], &mut 0)
+}
+
 pub fn put_bytes(out: &mut [u8], at: usize, s: &[u8]) -> usize {
     unsafe { c::gablemadder_put_bytes(out.as_mut_ptr(), out.len(), at, s.as_ptr(), s.len()) }
 }
@@ -228,26 +157,6 @@ pub fn put_decimal(out: &mut [u8], at: usize, x: f64, places: u32) -> usize {
     unsafe { c::gablemadder_put_decimal(out.as_mut_ptr(), out.len(), at, x, places) }
 }
 
-/// The refusal from 1 to 7 that turns a part file back, 0 for none.
-pub fn part_verdict(file: &[u8]) -> u32 {
-    unsafe { c::gablemadder_part_verdict(file.as_ptr(), file.len()) }
-}
-
-/// The body of a part in the lent cells and 0; or the refusal from 1 to 10.
-pub fn body(file: &[u8], words: &mut [u32], reals: &mut [f64]) -> u32 {
-    unsafe { c::gablemadder_body(file.as_ptr(), file.len(), words.as_mut_ptr(), words.len(), reals.as_mut_ptr(), reals.len()) }
-}
-
-/// The sides of a part and their pairs alone.
-pub fn shared_segments(file: &[u8], mem: &mut [u32]) -> u32 {
-    unsafe { c::gablemadder_shared_segments(file.as_ptr(), file.len(), mem.as_mut_ptr(), mem.len()) }
-}
-
-/// The lowest polygon of each polygon's body alone.
-pub fn bodies(file: &[u8], mem: &mut [u32]) -> u32 {
-    unsafe { c::gablemadder_bodies(file.as_ptr(), file.len(), mem.as_mut_ptr(), mem.len()) }
-}
-
 /// Of each ray (origin, direction) the polygon that it strikes and how far along, after the body in the scratch, and 0; or the refusal from 1 to 10.
 pub fn raycast(file: &[u8], words: &mut [u32], reals: &mut [f64], rays: &[f64], polygons: &mut [u32], times: &mut [f64]) -> u32 {
     let (w, f, r, k, t) = (words.as_mut_ptr(), reals.as_mut_ptr(), rays.as_ptr(), polygons.as_mut_ptr(), times.as_mut_ptr());
@@ -261,46 +170,8 @@ pub fn sample_list(file: &[u8], words: &mut [u32], reals: &mut [f64], faces: &mu
     unsafe { c::gablemadder_sample_list(file.as_ptr(), file.len(), w, words.len(), r, reals.len(), f, faces.len(), n, numbers.len()) }
 }
 
-/// Of the rounds: their number, then three cells for each, and eleven numbers for each.
-pub fn round_list(file: &[u8], words: &mut [u32], reals: &mut [f64], faces: &mut [u32], numbers: &mut [f64]) -> u32 {
-    let (w, r, f, n) = (words.as_mut_ptr(), reals.as_mut_ptr(), faces.as_mut_ptr(), numbers.as_mut_ptr());
-    unsafe { c::gablemadder_round_list(file.as_ptr(), file.len(), w, words.len(), r, reals.len(), f, faces.len(), n, numbers.len()) }
-}
-
-pub fn rough(file: &[u8], words: &mut [u32], reals: &mut [f64], out: &mut [f64]) -> u32 {
-    let (w, r, o) = (words.as_mut_ptr(), reals.as_mut_ptr(), out.as_mut_ptr());
-    unsafe { c::gablemadder_rough(file.as_ptr(), file.len(), w, words.len(), r, reals.len(), o, out.len()) }
-}
-
 /// Of each ray 1 where the line leaves the part, else 0, after the body in the scratch.
 pub fn open_towards(file: &[u8], words: &mut [u32], reals: &mut [f64], rays: &[f64], cells: &mut [u32]) -> u32 {
     let (w, f, r, o) = (words.as_mut_ptr(), reals.as_mut_ptr(), rays.as_ptr(), cells.as_mut_ptr());
     unsafe { c::gablemadder_open_towards(file.as_ptr(), file.len(), w, words.len(), f, reals.len(), r, rays.len(), o, cells.len()) }
-}
-
-/// The refusal from 1 to 10; or 1000 and the number of faults by the rules of machining, of which as many as there are rows for, and at most 2,048,
-/// are put: six cells for each (kind, severity, count, two faces, waived), and three numbers for each.
-pub fn machining(file: &[u8], words: &mut [u32], reals: &mut [f64], cells: &mut [u32], numbers: &mut [f64]) -> u32 {
-    let (w, r, c, n) = (words.as_mut_ptr(), reals.as_mut_ptr(), cells.as_mut_ptr(), numbers.as_mut_ptr());
-    unsafe { c::gablemadder_machining(file.as_ptr(), file.len(), w, words.len(), r, reals.len(), c, cells.len(), n, numbers.len()) }
-}
-
-/// The same by the rules of sheet metal; the summary is 1 where the part has a thickness, it, and the number of bends. 0 where it is shorter.
-pub fn sheet_metal(file: &[u8], words: &mut [u32], reals: &mut [f64], cells: &mut [u32], numbers: &mut [f64], summary: &mut [f64]) -> u32 {
-    let (w, r, c, n, s) = (words.as_mut_ptr(), reals.as_mut_ptr(), cells.as_mut_ptr(), numbers.as_mut_ptr(), summary.as_mut_ptr());
-    let (words, reals, cells, numbers) = (words.len(), reals.len(), cells.len(), numbers.len());
-    unsafe { c::gablemadder_sheet_metal(file.as_ptr(), file.len(), w, words, r, reals, c, cells, n, numbers, s, summary.len()) }
-}
-
-/// The same by the rules of printing, hollows where the job's process traps them; the summary is 1 where the part has a height, and it.
-pub fn printing(file: &[u8], words: &mut [u32], reals: &mut [f64], cells: &mut [u32], numbers: &mut [f64], summary: &mut [f64]) -> u32 {
-    let (w, r, c, n, s) = (words.as_mut_ptr(), reals.as_mut_ptr(), cells.as_mut_ptr(), numbers.as_mut_ptr(), summary.as_mut_ptr());
-    let (words, reals, cells, numbers) = (words.len(), reals.len(), cells.len(), numbers.len());
-    unsafe { c::gablemadder_printing(file.as_ptr(), file.len(), w, words, r, reals, c, cells, n, numbers, s, summary.len()) }
-}
-
-/// The length of the text of a fault's row; what of it falls past the end of `out` is not written.
-pub fn message(file: &[u8], cells: &[u32], numbers: &[f64], out: &mut [u8]) -> usize {
-    let (c, n, o) = (cells.as_ptr(), numbers.as_ptr(), out.as_mut_ptr());
-    unsafe { c::gablemadder_message(file.as_ptr(), file.len(), c, cells.len(), n, numbers.len(), o, out.len()) }
 }

@@ -1,6 +1,6 @@
-//! The four slices that a call which lists something is lent, full of garbage: the scratch, and the list's cells and numbers.
+//! The slices that the check is lent beside the report, full of garbage: the scratch, and the cells and numbers of fault rows.
 use crate::random::Random;
-use crate::scratch::{is_refusal, Scratch};
+use crate::scratch::Scratch;
 
 pub struct Lent {
     pub random: Random,
@@ -21,11 +21,5 @@ impl Lent {
         self.reals.lend(reals, kinds[1], small, &mut self.random);
         self.cells.lend(cells, kinds[2], small, &mut self.random);
         self.numbers.lend(numbers, kinds[3], small, &mut self.random);
-    }
-
-    /// This answer, and no cell changed.
-    pub fn is_refusal(&self, call: &str, ours: u32, number: u32) -> Result<(), String> {
-        let scratch = self.words.is_unchanged() && self.reals.is_unchanged();
-        is_refusal(call, ours, number, scratch && self.cells.is_unchanged() && self.numbers.is_unchanged())
     }
 }

@@ -29,12 +29,6 @@ fn with_cells(nx: usize, ny: usize) -> (String, Vec<u8>) {
     (format!("a plate with {} bores and pockets", nx * ny), file::bytes(&part, &Job::defaults(CNC)))
 }
 
-fn plain() -> (String, Vec<u8>) {
-    let mut part = Part::default();
-    part.block(1, [0.0; 3], [20.0, 20.0, 0.5]);
-    ("a thin plate".into(), file::bytes(&part, &Job::defaults(CNC)))
-}
-
 /// Of a material that needs walls as thick as the pits are apart.
 fn small_faces() -> (String, Vec<u8>) {
     let mut mesh = voxels::pits(340, 0);
@@ -44,5 +38,5 @@ fn small_faces() -> (String, Vec<u8>) {
 }
 
 pub fn all() -> Vec<(String, Vec<u8>)> {
-    vec![plain(), with_cells(2, 3), with_cells(3, 7), with_cells(6, 14), small_faces()]
+    vec![with_cells(2, 3), with_cells(3, 7), with_cells(6, 14), with_cells(7, 15), small_faces()]
 }

@@ -1,64 +1,75 @@
-//! The faults of machining against the Rust's own list before it merges them, in order: severity, rule, text, count and faces; and refusals 1 to 10.
-//! Takes generated files from standard input; with --quick there are fewer of the others.
+//! The check of cut parts against the patched Rust's (tests/check/compare.rs), with each rule of machining at its limits, counted by the Rust's faults
+//! before it merges equal ones. Takes generated files from standard input; with --quick there are fewer of the others.
 #[path = "../rays/bores.rs"]
 mod bores;
-#[path = "../body/change.rs"]
+#[path = "../shapes/change.rs"]
 mod change;
-#[path = "../rules/compare.rs"]
+#[path = "../check/compare.rs"]
+#[allow(dead_code)]
 mod compare;
 #[path = "../rules/counts.rs"]
 mod counts;
+#[path = "../oracle/generate/draw.rs"]
+#[allow(dead_code)]
+mod draw;
 #[path = "../part/field.rs"]
 mod field;
+#[path = "../oracle/generate/findings.rs"]
+mod findings;
 #[path = "../rules/frame.rs"]
 mod frame;
 #[path = "../lib/gablemadder.rs"]
 mod gablemadder;
 #[path = "../rules/ids.rs"]
 mod ids;
-#[path = "../body/layout.rs"]
-mod layout;
+#[path = "../oracle/generate/job.rs"]
+#[allow(dead_code)]
+mod job;
 #[path = "../lib/lent.rs"]
 mod lent;
-#[path = "../body/mesh.rs"]
+#[path = "../shapes/mesh.rs"]
 mod mesh;
 #[path = "../lib/random.rs"]
 mod random;
-#[path = "../body/regions.rs"]
-mod regions;
-#[path = "../rules/rows.rs"]
-mod rows;
 #[path = "../part/sample.rs"]
 mod sample;
-#[path = "../body/scratch.rs"]
+#[path = "../lib/scratch.rs"]
 mod scratch;
-#[path = "../body/shapes.rs"]
+#[path = "../check/seen.rs"]
+#[allow(dead_code)]
+mod seen;
+#[path = "../shapes/shapes.rs"]
 mod shapes;
+#[path = "../check/sizes.rs"]
+mod sizes;
+#[path = "../oracle/generate/space.rs"]
+#[allow(dead_code)]
+mod space;
 #[path = "../lib/stream.rs"]
 mod stream;
 #[path = "../lib/tally.rs"]
 mod tally;
 #[path = "../rays/walls.rs"]
 mod walls;
-#[path = "../rules/wanted.rs"]
+
+mod facets;
+mod limits;
+mod voxels;
 mod wanted;
 
-mod limits;
-mod seen;
-mod voxels;
-
-use compare::Compare;
+use frame::Files;
 use mesh::Mesh;
 use random::Random;
-use seen::Machining;
+use wanted::Machining;
 
 fn main() {
     frame::run::<Machining>("machining", 23, own, changed)
 }
 
-fn own(c: &mut Compare<Machining>, quick: bool) {
+fn own(c: &mut Files<Machining>, quick: bool) {
     let (shapes, rounds) = if quick { (3_000, 1) } else { (70_000, 2) };
     own_shapes(c, shapes);
+    many_facets(c, rounds);
     many_faults(c, rounds);
 }
 
@@ -94,7 +105,7 @@ fn draw(random: &mut Random) -> Mesh {
     mesh
 }
 
-fn own_shapes(c: &mut Compare<Machining>, count: u64) {
+fn own_shapes(c: &mut Files<Machining>, count: u64) {
     let mut random = Random(26);
     for number in 0..count {
         let mesh = draw(&mut random);
@@ -104,8 +115,18 @@ fn own_shapes(c: &mut Compare<Machining>, count: u64) {
     }
 }
 
+/// As they are, and with a radius at a limit, where it shows whether they are holes.
+fn many_facets(c: &mut Files<Machining>, rounds: u64) {
+    let mut random = Random(27);
+    for (name, mut mesh) in (0..rounds).flat_map(|_| facets::all()) {
+        c.check(&mesh.bytes(), || name.clone());
+        limits::fit_rounds(&mut random, &mut mesh);
+        c.check(&mesh.bytes(), || format!("{name}, another radius"));
+    }
+}
+
 /// About as many as there are rows at the most, and more.
-fn many_faults(c: &mut Compare<Machining>, rounds: u64) {
+fn many_faults(c: &mut Files<Machining>, rounds: u64) {
     for _ in 0..rounds {
         for (pits, not_plane) in [(682, 0), (683, 1), (684, 2), (683, 0), (1024, 0)] {
             c.check(&voxels::pits(pits, not_plane).bytes(), || format!("{pits} pits"));

@@ -1,9 +1,11 @@
-//! One file: our answer beside the oracle's, with the lent bytes before and after.
+//! One file: the check's answer where it is lent nothing, beside the oracle's, with the lent bytes before and after.
 use crate::gablemadder;
 use crate::reader;
 use crate::tally::Tally;
 
 const MARGIN: [u8; 8] = [0x5a; 8];
+/// What refuses a part that nothing else turns back: no scratch is lent.
+const NO_SCRATCH: u32 = 10;
 
 #[derive(Default)]
 pub struct Compare {
@@ -14,7 +16,7 @@ pub struct Compare {
 }
 
 impl Compare {
-    /// The oracle's 8 and 9 are 0 for ours, which looks at 1 to 7 only. The benchmark's reader has to agree too, or it would be no peer.
+    /// The benchmark's reader, which knows 1 to 7 only, has to agree too, or it would be no peer.
     pub fn check(&mut self, file: &[u8], what: impl FnOnce() -> String) {
         // at every alignment in turn
         let start = (self.tally.compared % 8) as usize;
@@ -23,16 +25,16 @@ impl Compare {
         self.lent.extend_from_slice(file);
         self.lent.extend_from_slice(&MARGIN);
         let end = start + file.len();
-        let ours = gablemadder::part_verdict(&self.lent[start..end]);
+        let ours = gablemadder::refusal(&self.lent[start..end]);
         let unchanged = self.lent[..start] == MARGIN[..start] && self.lent[start..end] == *file && self.lent[end..] == MARGIN;
         let oracle = oracle::refusal(file);
-        let want = if oracle <= 7 { oracle } else { 0 };
+        let want = if oracle == 0 { NO_SCRATCH } else { oracle };
         let peer = reader::verdict(file);
         self.seen[oracle as usize] += 1;
-        let same = ours == want && peer == want && unchanged;
+        let same = ours == want && peer == if oracle <= 7 { oracle } else { 0 } && unchanged;
         self.tally.check(same, || {
             let bytes = if unchanged { "unchanged" } else { "CHANGED" };
-            format!("{} ({} bytes, {bytes}): ours {ours}, the oracle's {oracle}, the benchmark's {peer}", what(), file.len())
+            format!("{} ({} bytes, {bytes}): ours {ours} for {want}, the benchmark's {peer}", what(), file.len())
         });
     }
 }

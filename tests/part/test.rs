@@ -1,4 +1,4 @@
-//! The reader of part files against the oracle's: the same refusal from 1 to 7 for every file, and no byte changed.
+//! The check of part files that is lent nothing against the oracle's: the same refusal from 1 to 9 for every file, else 10, and no byte changed.
 //! Takes generated files from standard input; with --quick the small files are fewer.
 #[path = "../lib/gablemadder.rs"]
 mod gablemadder;

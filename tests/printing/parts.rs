@@ -1,4 +1,4 @@
-//! Parts to time, each with a name, of about 200, 800 and 3,200 polygons: plates with bores and pockets on feet, blocks full of hollows, and rings whose
+//! Parts to time, each with a name, of about 200, 800, 3,200 and 4,000 polygons: plates with bores and pockets on feet, blocks full of hollows, and rings whose
 //! faces lean by every angle.
 use crate::file;
 use crate::job::Job;
@@ -21,7 +21,7 @@ fn cell(number: usize, x: f64, y: f64) -> Cell {
     }
 }
 
-pub fn with_cells(nx: usize, ny: usize) -> (String, Part) {
+fn with_cells(nx: usize, ny: usize) -> (String, Part) {
     let (xs, ys) = (cuts(&vec![WIDTH; nx]), cuts(&vec![WIDTH; ny]));
     let cells: Vec<Cell> = (0..nx * ny).map(|k| cell(k, xs[k / ny], ys[k % ny])).collect();
     let mut part = Part::default();
@@ -34,7 +34,7 @@ pub fn with_cells(nx: usize, ny: usize) -> (String, Part) {
 }
 
 /// So many closed hollows in a block, with thin walls between them; each is a face.
-pub fn with_hollows(count: usize) -> (String, Part) {
+fn with_hollows(count: usize) -> (String, Part) {
     let mut part = Part::default();
     let rows = count.div_ceil(20) as f64;
     part.block(1, [0.0; 3], [40.3, 2.0 * rows + 0.3, 3.0]);
@@ -74,6 +74,8 @@ pub fn all(process: u32) -> Vec<(String, Vec<u8>)> {
         with_cells(6, 14),
         with_hollows(533),
         bent(80, 40, 16),
+        with_cells(7, 15),
+        with_hollows(666),
     ];
     let job = Job::defaults(process);
     parts.map(|(name, part)| (name, file::bytes(&part, &job))).to_vec()

@@ -1,43 +1,54 @@
-//! The faults of printing against the Rust's own list before it merges them, in order: severity, rule, text, count and faces; the height; and refusals 1
-//! to 10. Takes generated files from standard input; with --quick there are fewer of the others.
+//! The check of printed parts against the patched Rust's (tests/check/compare.rs), with each rule of printing at its limits, counted by the Rust's faults
+//! before it merges equal ones. Takes generated files from standard input; with --quick there are fewer of the others.
 #[path = "../rules/arrange.rs"]
 mod arrange;
 #[path = "../rays/bores.rs"]
 mod bores;
-#[path = "../body/change.rs"]
+#[path = "../shapes/change.rs"]
 mod change;
-#[path = "../rules/compare.rs"]
+#[path = "../check/compare.rs"]
+#[allow(dead_code)]
 mod compare;
 #[path = "../rules/counts.rs"]
 mod counts;
 #[path = "../rules/dial.rs"]
 mod dial;
+#[path = "../oracle/generate/draw.rs"]
+#[allow(dead_code)]
+mod draw;
 #[path = "../part/field.rs"]
 mod field;
+#[path = "../oracle/generate/findings.rs"]
+mod findings;
 #[path = "../rules/frame.rs"]
 mod frame;
 #[path = "../lib/gablemadder.rs"]
 mod gablemadder;
 #[path = "../rules/ids.rs"]
 mod ids;
-#[path = "../body/layout.rs"]
-mod layout;
+#[path = "../oracle/generate/job.rs"]
+#[allow(dead_code)]
+mod job;
 #[path = "../lib/lent.rs"]
 mod lent;
-#[path = "../body/mesh.rs"]
+#[path = "../shapes/mesh.rs"]
 mod mesh;
 #[path = "../lib/random.rs"]
 mod random;
-#[path = "../body/regions.rs"]
-mod regions;
-#[path = "../rules/rows.rs"]
-mod rows;
 #[path = "../part/sample.rs"]
 mod sample;
-#[path = "../body/scratch.rs"]
+#[path = "../lib/scratch.rs"]
 mod scratch;
-#[path = "../body/shapes.rs"]
+#[path = "../check/seen.rs"]
+#[allow(dead_code)]
+mod seen;
+#[path = "../shapes/shapes.rs"]
 mod shapes;
+#[path = "../check/sizes.rs"]
+mod sizes;
+#[path = "../oracle/generate/space.rs"]
+#[allow(dead_code)]
+mod space;
 #[path = "../lib/stream.rs"]
 mod stream;
 #[path = "../lib/tally.rs"]
@@ -47,8 +58,6 @@ mod tally;
 mod voxels;
 #[path = "../rays/walls.rs"]
 mod walls;
-#[path = "../rules/wanted.rs"]
-mod wanted;
 
 mod dials;
 mod fit;
@@ -56,24 +65,24 @@ mod floors;
 mod hollows;
 mod jobs;
 mod over;
-mod seen;
 mod shells;
 mod steps;
 mod undersides;
 mod ups;
+mod wanted;
 
-use compare::Compare;
 use fit::Fit;
+use frame::Files;
 use mesh::Mesh;
 use random::Random;
-use seen::Printing;
 use shapes::pick;
+use wanted::Printing;
 
 fn main() {
     frame::run::<Printing>("printing", 43, own, changed)
 }
 
-fn own(c: &mut Compare<Printing>, quick: bool) {
+fn own(c: &mut Files<Printing>, quick: bool) {
     let (shapes, dials, rounds) = if quick { (1_500, 200, 1) } else { (45_000, 12_000, 2) };
     own_shapes(c, shapes);
     every_limit(c, if quick { 90 } else { 1 });
@@ -126,7 +135,7 @@ fn draw(random: &mut Random) -> Mesh {
     mesh
 }
 
-fn own_shapes(c: &mut Compare<Printing>, count: u64) {
+fn own_shapes(c: &mut Files<Printing>, count: u64) {
     let mut random = Random(46);
     for number in 0..count {
         let mut mesh = draw(&mut random);
@@ -140,7 +149,7 @@ fn own_shapes(c: &mut Compare<Printing>, count: u64) {
 }
 
 /// For the limits of overhangs, of so many tenths of a degree each: faces that lean by their sine, and by it and the slack, and a few f64 beside.
-fn every_limit(c: &mut Compare<Printing>, each: usize) {
+fn every_limit(c: &mut Files<Printing>, each: usize) {
     let mut random = Random(48);
     for tenths in (0..=900).step_by(each) {
         for slack in [false, true] {
@@ -150,13 +159,13 @@ fn every_limit(c: &mut Compare<Printing>, each: usize) {
                 let mesh = over::at_limit(&mut random, tenths, slack, steps);
                 c.check(&mesh.bytes(), || format!("limit {tenths}, {steps} beside"));
             }
-            c.counts.add(seen::TENTHS, u64::from(c.counts.count(what) > before));
+            c.counts.add(wanted::TENTHS, u64::from(c.counts.count(what) > before));
         }
     }
 }
 
 /// Parts one f64 to each side of a change.
-fn own_dials(c: &mut Compare<Printing>, count: u64) {
+fn own_dials(c: &mut Files<Printing>, count: u64) {
     let mut random = Random(47);
     for number in 0..count {
         let mesh = draw(&mut random);
@@ -165,7 +174,7 @@ fn own_dials(c: &mut Compare<Printing>, count: u64) {
 }
 
 /// About as many as there are rows at the most, and more.
-fn many_faults(c: &mut Compare<Printing>, rounds: u64) {
+fn many_faults(c: &mut Files<Printing>, rounds: u64) {
     let mut random = Random(49);
     for _ in 0..rounds {
         for count in [2047, 2048, 2049, 4096] {

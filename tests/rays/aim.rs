@@ -1,8 +1,8 @@
 //! Rays for a body: at random, and at what is hard: vertices, sides and the tolerance beside them, along faces, from a face itself, with zeros of
 //! both signs, and numbers that no caller should pass.
-use crate::definition::{centroid, cross, length, minus, plane};
 use crate::field::ODD;
 use crate::mesh::{Mesh, Point, Polygon};
+use crate::polygon::{centroid, cross, length, minus, plane, plus, times};
 use crate::random::Random;
 use crate::shapes::{nudge, pick};
 
@@ -62,13 +62,12 @@ fn between(a: Point, b: Point, share: f64) -> Point {
     [0, 1, 2].map(|k| a[k] + (b[k] - a[k]) * share)
 }
 
-fn moved(p: Point, by: Point, times: f64) -> Point {
-    [0, 1, 2].map(|k| p[k] + by[k] * times)
+fn moved(p: Point, by: Point, far: f64) -> Point {
+    plus(p, times(by, far))
 }
 
 fn normal(polygon: &Polygon) -> Point {
-    let [x, y, z, _] = plane(polygon).map(f64::from_bits);
-    [x, y, z]
+    plane(polygon).0
 }
 
 /// A point in the polygon's plane about as far outside a side as the tolerance of the side test lets pass, which is 1e-9 over the side's length.

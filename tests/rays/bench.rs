@@ -1,5 +1,5 @@
-//! Times of a ray over all polygons, of the readings and of the rounds, beside the Rust's with the replacements, and of the rounds beside the
-//! Rust's as published too. Ours begin at the file's bytes, the Rust's at the part it has read already: so the time of the body alone is
+//! Times of a ray over all polygons and of the readings beside the Rust's, with the replacements, whose rays try every polygon, and as published, whose
+//! rays go down a tree of boxes. Ours begin at the file's bytes, the Rust's at the part it has read already: so the time of a call that casts no ray is
 //! taken off ours, and stands beside. Each time is the best of many, taken in turn in one run.
 #[path = "../lib/best.rs"]
 mod best;
@@ -7,15 +7,13 @@ mod best;
 mod field;
 #[path = "../lib/gablemadder.rs"]
 mod gablemadder;
-#[path = "../body/layout.rs"]
-mod layout;
-#[path = "../body/mesh.rs"]
+#[path = "../shapes/mesh.rs"]
 mod mesh;
 #[path = "../lib/random.rs"]
 mod random;
 #[path = "../part/sample.rs"]
 mod sample;
-#[path = "../body/shapes.rs"]
+#[path = "../shapes/shapes.rs"]
 mod shapes;
 
 mod bores;
@@ -23,37 +21,31 @@ mod large;
 mod walls;
 
 use best::best_of;
-use layout::Layout;
 use mesh::Mesh;
-use oracle::measures::Measures;
-use oracle::solid::Solid;
 use std::hint::black_box;
 
 /// A ray is to take at most this many times the time of the Rust's scan of every polygon.
 const MOST: f64 = 1.3;
 const ROUNDS: usize = 20;
-/// For small bodies, whose times are short.
-const MANY_ROUNDS: usize = 1000;
 /// In one call, so that the planes' share is small.
 const RAYS: usize = 1000;
 
 struct Subject {
     name: String,
     file: Vec<u8>,
-    layout: Layout,
-    patched: Solid,
-    published: published::solid::Solid,
+    polygons: usize,
     words: Vec<u32>,
     reals: Vec<f64>,
+    patched: oracle::solid::Solid,
+    published: published::solid::Solid,
 }
 
 impl Subject {
     fn new((name, mesh): (String, Mesh)) -> Subject {
-        let file = mesh.bytes();
-        let layout = Layout { polygons: mesh.polygons.len(), vertices: mesh.vertices() };
+        let (file, polygons, vertices) = (mesh.bytes(), mesh.polygons.len(), mesh.vertices());
         let (patched, published) = (oracle::body(&file).expect("an accepted file"), published::body(&file).expect("an accepted file"));
-        let (words, reals) = layout.lent();
-        Subject { name, file, layout, patched, published, words: vec![0; words], reals: vec![0.0; reals] }
+        let (words, reals) = (vec![0; 8 * polygons + 8 * vertices + 1024], vec![0.0; 16 * polygons + 8 * vertices + 2048]);
+        Subject { name, file, polygons, words, reals, patched, published }
     }
 
     /// From the middle of each of so many polygons inward, as the readings are taken.
@@ -68,103 +60,71 @@ impl Subject {
         (0..RAYS).flat_map(ray).collect()
     }
 
-    /// The ratio of a ray.
-    fn time_rays(&self) -> f64 {
-        let measures = Measures::of(&self.patched);
+    /// Both ratios of what takes so long of n steps, after a call that casts no ray.
+    fn time(&self, what: &str, n: usize, ours: &mut dyn FnMut(), patched: &mut dyn FnMut(), published: &mut dyn FnMut()) -> [f64; 2] {
+        let (mut words, mut reals) = (self.words.clone(), self.reals.clone());
+        let mut none = || {
+            black_box(gablemadder::raycast(black_box(&self.file), &mut words, &mut reals, &[], &mut [], &mut []));
+        };
+        let [ours, body, patched, published] = best_of(ROUNDS, n, [ours, &mut none, patched, published]).map(|t| t / 1e3);
+        let (name, least, body) = (&self.name, ours - body, body * n as f64 / 1e3);
+        let ratios = [least / patched, least / published];
+        println!(
+            "{what}, {name}: {least:.2} µs after {body:.2} ms for the body; the Rust's {patched:.2} µs with the replacements, {published:.2} µs as \
+             published: {:.2} and {:.2} times theirs",
+            ratios[0], ratios[1]
+        );
+        ratios
+    }
+
+    fn time_rays(&self) -> [f64; 2] {
+        let measures = oracle::measures::Measures::of(&self.patched);
+        let tree = published::measures::Measures::of(&self.published);
         let rays = self.rays();
         let (mut words, mut reals) = (self.words.clone(), self.reals.clone());
-        let (mut words_of_body, mut reals_of_body) = (words.clone(), reals.clone());
         let (mut polygons, mut times) = (vec![0; RAYS], vec![0.0; RAYS]);
         let hit = |ray: &[f64]| measures.hit(oracle::math::v3(ray[0], ray[1], ray[2]), oracle::math::v3(ray[3], ray[4], ray[5]));
+        let found = |ray: &[f64]| tree.hit(published::math::v3(ray[0], ray[1], ray[2]), published::math::v3(ray[3], ray[4], ray[5]));
         assert_eq!(gablemadder::raycast(&self.file, &mut words, &mut reals, &rays, &mut polygons, &mut times), 0);
         let theirs = rays.chunks(6).map(|ray| hit(ray).map_or(0.0, |h| h.t));
         assert!(times.iter().copied().eq(theirs), "{}: the times of the hits", self.name);
-        let [ours, start, patched] = best_of(
-            ROUNDS,
+        self.time(
+            "a ray",
             RAYS,
-            [
-                &mut || {
-                    black_box(gablemadder::raycast(black_box(&self.file), &mut words, &mut reals, &rays, &mut polygons, &mut times));
-                },
-                &mut || {
-                    black_box(gablemadder::raycast(black_box(&self.file), &mut words_of_body, &mut reals_of_body, &[], &mut [], &mut []));
-                },
-                &mut || rays.chunks(6).for_each(|ray| drop(black_box(hit(black_box(ray))))),
-            ],
-        );
-        let (name, body) = (&self.name, start * RAYS as f64 / 1e6);
-        let (ray, scan, ratio) = ((ours - start) / 1e3, patched / 1e3, (ours - start) / patched);
-        println!("a ray, {name}: {ray:.2} µs after {body:.2} ms for the body; the Rust's scan {scan:.2} µs: {ratio:.2} times theirs");
-        ratio
+            &mut || {
+                black_box(gablemadder::raycast(black_box(&self.file), &mut words, &mut reals, &rays, &mut polygons, &mut times));
+            },
+            &mut || rays.chunks(6).for_each(|ray| drop(black_box(hit(black_box(ray))))),
+            &mut || rays.chunks(6).for_each(|ray| drop(black_box(found(black_box(ray))))),
+        )
     }
 
-    fn time_readings(&mut self) -> f64 {
-        let measures = Measures::of(&self.patched);
-        let (file, words, reals) = (&self.file, &mut self.words, &mut self.reals);
-        let (mut faces, mut numbers) = (vec![0; 2 * self.layout.polygons + 1], vec![0.0; 8 * self.layout.polygons]);
-        assert_eq!(gablemadder::sample_list(file, words, reals, &mut faces, &mut numbers), 0);
+    fn time_readings(&self) -> [f64; 2] {
+        let measures = oracle::measures::Measures::of(&self.patched);
+        let tree = published::measures::Measures::of(&self.published);
+        let (mut words, mut reals) = (self.words.clone(), self.reals.clone());
+        let (mut faces, mut numbers) = (vec![0; 2 * self.polygons + 1], vec![0.0; 8 * self.polygons]);
+        assert_eq!(gablemadder::sample_list(&self.file, &mut words, &mut reals, &mut faces, &mut numbers), 0);
         assert_eq!(faces[0] as usize, measures.readings().len(), "{}: the number of readings", self.name);
-        let (mut words_of_body, mut reals_of_body) = (words.clone(), reals.clone());
-        let [ours, body, patched] = best_of(
-            ROUNDS,
-            1000,
-            [
-                &mut || {
-                    black_box(gablemadder::sample_list(black_box(file), words, reals, &mut faces, &mut numbers));
-                },
-                &mut || {
-                    black_box(gablemadder::body(black_box(file), &mut words_of_body, &mut reals_of_body));
-                },
-                &mut || drop(black_box(black_box(&measures).readings())),
-            ],
-        );
-        let (name, least, ratio) = (&self.name, ours - body, (ours - body) / patched);
-        println!("readings, {name}: {least:.0} µs after {body:.0} µs for the body; the Rust's {patched:.0} µs: {ratio:.2} times theirs");
-        ratio
-    }
-
-    fn time_rounds(&mut self) -> f64 {
-        let (measures, published) = (Measures::of(&self.patched), published::measures::Measures::of(&self.published));
-        let (file, words, reals) = (&self.file, &mut self.words, &mut self.reals);
-        let (mut faces, mut numbers) = (vec![0; 3 * self.layout.polygons + 1], vec![0.0; 11 * self.layout.polygons]);
-        assert_eq!(gablemadder::round_list(file, words, reals, &mut faces, &mut numbers), 0);
-        let (is_hole, kind) = (measures.rounds()[0].hole, words[self.layout.round_kind(0)]);
-        assert_eq!(is_hole, kind == 3, "{}: a hole or not", self.name);
-        let (mut words_of_body, mut reals_of_body) = (words.clone(), reals.clone());
-        let rounds = if self.layout.polygons < 1000 { MANY_ROUNDS } else { ROUNDS };
-        let [ours, body, patched, other] = best_of(
-            rounds,
-            1000,
-            [
-                &mut || {
-                    black_box(gablemadder::round_list(black_box(file), words, reals, &mut faces, &mut numbers));
-                },
-                &mut || {
-                    black_box(gablemadder::body(black_box(file), &mut words_of_body, &mut reals_of_body));
-                },
-                &mut || drop(black_box(black_box(&measures).rounds())),
-                &mut || drop(black_box(black_box(&published).rounds())),
-            ],
-        );
-        let (name, least) = (&self.name, ours - body);
-        let each = least * 1e3 / self.layout.vertices as f64;
-        let ratios = format!("{:.2} and {:.2} times theirs", least / patched, least / other);
-        println!(
-            "rounds, {name}: {least:.0} µs, {each:.0} ns a vertex, after {body:.0} µs for the body; \
-             the Rust's {patched:.0} µs with the replacements, {other:.0} µs as published: {ratios}"
-        );
-        each
+        self.time(
+            "readings",
+            1,
+            &mut || {
+                black_box(gablemadder::sample_list(black_box(&self.file), &mut words, &mut reals, &mut faces, &mut numbers));
+            },
+            &mut || drop(black_box(black_box(&measures).readings())),
+            &mut || drop(black_box(black_box(&tree).readings())),
+        )
     }
 }
 
 fn main() {
     let subjects = |list: Vec<(String, Mesh)>| list.into_iter().map(Subject::new);
-    let rays = subjects(large::for_rays()).map(|s| s.time_rays()).fold(0.0, f64::max);
-    let readings = subjects(large::for_readings()).map(|mut s| s.time_readings()).fold(0.0, f64::max);
-    let each: Vec<f64> = subjects(large::for_rounds()).map(|mut s| s.time_rounds()).collect();
-    let (low, high) = each.iter().fold((f64::MAX, 0.0f64), |(low, high), x| (low.min(*x), high.max(*x)));
+    let most = |list: Vec<[f64; 2]>| [0, 1].map(|k| list.iter().map(|r| r[k]).fold(0.0, f64::max));
+    let [ray, ray_in_tree] = most(subjects(large::for_rays()).map(|s| s.time_rays()).collect());
+    let [readings, readings_in_tree] = most(subjects(large::for_readings()).map(|s| s.time_readings()).collect());
     println!(
-        "rays: a ray takes at most {rays:.2} times the Rust's scan ({MOST} is allowed), the readings at most {readings:.2} times the Rust's; \
-         the rounds of a bore {low:.0} to {high:.0} ns a vertex"
+        "rays: a ray takes at most {ray:.2} times the Rust's scan ({MOST} is allowed) and {ray_in_tree:.2} times its tree, the readings at most \
+         {readings:.2} and {readings_in_tree:.2} times"
     );
 }

@@ -1,9 +1,7 @@
 //! Bodies of many polygons, each with a name: for the benchmark, and for the test, which small ones do not show everything to.
-use crate::bores::{Axis, Wall, WORLD};
-use crate::mesh::{Mesh, Polygon};
+use crate::mesh::Mesh;
 use crate::shapes::{block, part, ring, squares, triangles};
 use crate::walls::patch;
-use std::f64::consts::TAU;
 
 type Named = (String, Mesh);
 
@@ -30,33 +28,4 @@ pub fn for_readings() -> Vec<Named> {
         ("a face of 2,048 triangles of two areas".into(), cover(0.25, 32)),
         ("a ring of 2,048 triangles in one face".into(), part(triangles(ring(32, 32)), 4096)),
     ]
-}
-
-/// One bore alone.
-fn bore(facets: usize, triangles: bool, falling: bool) -> Mesh {
-    let angles = (0..facets).map(|k| TAU * k as f64 / facets as f64).collect();
-    let wall = Wall { frame: WORLD, angles, closed: true, radius: 50.0, heights: [0.0, 10.0], inward: true, triangles };
-    let mut facets = wall.polygons();
-    if falling {
-        facets.reverse();
-    }
-    let mut mesh = Mesh::empty();
-    for points in facets {
-        let mut polygon = Polygon::new((1, 0), points);
-        Axis { origin: [0.0; 3], dir: [0.0, 0.0, 1.0], radius: 50.0 }.on(&mut polygon);
-        mesh.polygons.push(polygon);
-    }
-    mesh
-}
-
-/// Bores as a modeller orders them: rising, falling, and each facet as two triangles.
-pub fn for_rounds() -> Vec<Named> {
-    let mut list = Vec::new();
-    for (facets, triangles) in [(64, false), (64, true), (4096, false), (2048, true)] {
-        for falling in [false, true] {
-            let (order, form) = (if falling { "falling" } else { "rising" }, if triangles { ", two triangles a facet" } else { "" });
-            list.push((format!("a bore of {facets} facets, {order}{form}"), bore(facets, triangles, falling)));
-        }
-    }
-    list
 }

@@ -1,7 +1,7 @@
 //! How often each thing occurred that a comparison is to see, by name.
 use crate::ids::Id;
 use crate::mesh::Mesh;
-use crate::rows::MOST;
+use oracle::check::MOST_FAULTS;
 use oracle::faults::Finding;
 use oracle::solid::FaceId;
 use std::collections::HashSet;
@@ -51,7 +51,7 @@ impl Counts {
         self.add("no polygons", u64::from(mesh.polygons.is_empty()));
         self.add("no faults", u64::from(findings.is_empty()));
         self.add("equal faults", u64::from(texts.len() < findings.len()));
-        if findings.len().abs_diff(MOST) <= 1 {
+        if findings.len().abs_diff(MOST_FAULTS) <= 1 {
             self.add(&format!("{} faults", findings.len()), 1);
         }
         let number = |id: FaceId| faces.iter().position(|f| *f == (id.feature, id.index));

@@ -1,6 +1,6 @@
 //! Parts that hang on one number, and the two neighbouring f64 of it between which the Rust's answer changes: so a limit is met as the Rust's own
 //! roundings have it, wherever the part stands.
-use crate::compare::{Compare, Rules};
+use crate::frame::{Files, Rules};
 use crate::ids::Id;
 use crate::mesh::Mesh;
 use oracle::faults::Finding;
@@ -56,7 +56,7 @@ impl Dial {
     }
 
     /// Compares them, and counts the change.
-    pub fn check<R: Rules, F: Found>(&self, c: &mut Compare<R>, number: u64) {
+    pub fn check<R: Rules, F: Found>(&self, c: &mut Files<R>, number: u64) {
         let (change, parts) = self.parts::<F>();
         if let Some(what) = change {
             c.counts.add(&what, 1);

@@ -1,4 +1,4 @@
-//! Parts to time, each with a name: plates and brackets with holes and bends, and covers with slots, of about 200, 800 and 3,200 polygons. A slot has
+//! Parts to time, each with a name: plates and brackets with holes and bends, and covers with slots, of about 200, 800, 3,200 and 4,000 polygons. A slot has
 //! eight faces where a hole has one, so that a cover has the most edges between faces.
 use crate::file;
 use crate::job::{Job, Material, SHEET};
@@ -11,15 +11,15 @@ const THICK: f64 = 2.0;
 const WIDTH: f64 = 12.0;
 
 /// A strip through so many bends, its flat pieces so many cells wide, of which some have a hole.
-pub struct Plan {
-    pub bends: usize,
-    pub cells: usize,
-    pub holes: usize,
-    pub slots: bool,
+struct Plan {
+    bends: usize,
+    cells: usize,
+    holes: usize,
+    slots: bool,
 }
 
 impl Plan {
-    pub fn file(&self) -> Vec<u8> {
+    fn file(&self) -> Vec<u8> {
         let mut runs = vec![Run::Straight(WIDTH)];
         for k in 0..self.bends {
             runs.push(Run::Bend(1.5, 0.25, 4, k % 2 == 0));
@@ -52,6 +52,7 @@ pub fn all() -> Vec<(String, Vec<u8>)> {
         ("a bracket of 4 bends with 10 holes", Plan { bends: 4, cells: 6, holes: 10, slots: false }),
         ("a plate with 64 holes", Plan { bends: 0, cells: 64, holes: 64, slots: false }),
         ("a bracket of 6 bends with 40 holes", Plan { bends: 6, cells: 20, holes: 40, slots: false }),
+        ("a bracket of 6 bends with 8 holes", Plan { bends: 6, cells: 56, holes: 8, slots: false }),
         ("a cover of 1 bend with 5 slots", Plan { bends: 1, cells: 5, holes: 5, slots: true }),
         ("a cover of 2 bends with 20 slots", Plan { bends: 2, cells: 10, holes: 20, slots: true }),
         ("a cover of 2 bends with 82 slots", Plan { bends: 2, cells: 41, holes: 82, slots: true }),

@@ -1,12 +1,13 @@
-//! The faults of sheet metal against the Rust's own list before it merges them, in order: severity, rule, text, count and faces; the thickness and the
-//! bends; and refusals 1 to 10. Takes generated files from standard input; with --quick there are fewer of the others.
+//! The check of bent parts against the patched Rust's (tests/check/compare.rs), with each rule of sheet metal at its limits, counted by the Rust's faults
+//! before it merges equal ones. Takes generated files from standard input; with --quick there are fewer of the others.
 #[path = "../rules/arrange.rs"]
 mod arrange;
 #[path = "../rays/bores.rs"]
 mod bores;
-#[path = "../body/change.rs"]
+#[path = "../shapes/change.rs"]
 mod change;
-#[path = "../rules/compare.rs"]
+#[path = "../check/compare.rs"]
+#[allow(dead_code)]
 mod compare;
 #[path = "../rules/counts.rs"]
 mod counts;
@@ -19,6 +20,8 @@ mod draw;
 mod field;
 #[path = "../oracle/generate/file.rs"]
 mod file;
+#[path = "../oracle/generate/findings.rs"]
+mod findings;
 #[path = "../rules/frame.rs"]
 mod frame;
 #[path = "../lib/gablemadder.rs"]
@@ -28,11 +31,9 @@ mod ids;
 #[path = "../oracle/generate/job.rs"]
 #[allow(dead_code)]
 mod job;
-#[path = "../body/layout.rs"]
-mod layout;
 #[path = "../lib/lent.rs"]
 mod lent;
-#[path = "../body/mesh.rs"]
+#[path = "../shapes/mesh.rs"]
 mod mesh;
 #[path = "../oracle/generate/part.rs"]
 #[allow(dead_code)]
@@ -42,21 +43,22 @@ mod part;
 mod plate;
 #[path = "../lib/random.rs"]
 mod random;
-#[path = "../body/regions.rs"]
-mod regions;
 #[path = "../oracle/generate/ring.rs"]
 #[allow(dead_code)]
 mod ring;
-#[path = "../rules/rows.rs"]
-mod rows;
 #[path = "../part/sample.rs"]
 mod sample;
-#[path = "../body/scratch.rs"]
+#[path = "../lib/scratch.rs"]
 mod scratch;
-#[path = "../body/shapes.rs"]
+#[path = "../check/seen.rs"]
+#[allow(dead_code)]
+mod seen;
+#[path = "../shapes/shapes.rs"]
 mod shapes;
 #[path = "../oracle/generate/sheet.rs"]
 mod sheet;
+#[path = "../check/sizes.rs"]
+mod sizes;
 #[path = "../oracle/generate/space.rs"]
 #[allow(dead_code)]
 mod space;
@@ -69,26 +71,24 @@ mod tally;
 mod voxels;
 #[path = "../rays/walls.rs"]
 mod walls;
-#[path = "../rules/wanted.rs"]
-mod wanted;
 
 mod brackets;
 mod dials;
 mod jobs;
 mod limits;
-mod seen;
 mod steps;
+mod wanted;
 
-use compare::Compare;
+use frame::Files;
 use mesh::Mesh;
 use random::Random;
-use seen::Sheet;
+use wanted::Sheet;
 
 fn main() {
     frame::run::<Sheet>("sheet", 33, own, changed)
 }
 
-fn own(c: &mut Compare<Sheet>, quick: bool) {
+fn own(c: &mut Files<Sheet>, quick: bool) {
     let (shapes, dials, rounds) = if quick { (1_000, 200, 1) } else { (40_000, 12_000, 2) };
     own_shapes(c, shapes);
     own_dials(c, dials);
@@ -131,7 +131,7 @@ fn draw(random: &mut Random) -> Mesh {
     mesh
 }
 
-fn own_shapes(c: &mut Compare<Sheet>, count: u64) {
+fn own_shapes(c: &mut Files<Sheet>, count: u64) {
     let mut random = Random(36);
     for number in 0..count {
         let mesh = draw(&mut random);
@@ -142,7 +142,7 @@ fn own_shapes(c: &mut Compare<Sheet>, count: u64) {
 }
 
 /// Parts one f64 to each side of a change.
-fn own_dials(c: &mut Compare<Sheet>, count: u64) {
+fn own_dials(c: &mut Files<Sheet>, count: u64) {
     let mut random = Random(37);
     for number in 0..count {
         dials::draw(&mut random).check::<_, dials::Found>(c, number);
@@ -150,7 +150,7 @@ fn own_dials(c: &mut Compare<Sheet>, count: u64) {
 }
 
 /// About as many as there are rows at the most, and more.
-fn many_faults(c: &mut Compare<Sheet>, rounds: u64) {
+fn many_faults(c: &mut Files<Sheet>, rounds: u64) {
     for _ in 0..rounds {
         for (insides, tight) in [(341, 0), (341, 1), (341, 2), (341, 3), (400, 400)] {
             c.check(&limits::many_faults(insides, 6, tight).bytes(), || format!("{insides} bends on one outside, {tight} of them tight"));

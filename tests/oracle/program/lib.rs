@@ -17,8 +17,6 @@ mod anvil_kernel {
     pub use crate::solid::{FaceId, Solid, SurfaceKind};
 }
 
-pub use dfm::roots;
-
 /// The refusal from 1 to 9 that a file meets, 0 for none.
 pub fn refusal(file: &[u8]) -> u32 {
     part::read(file).err().unwrap_or(0)

@@ -2,18 +2,9 @@
 //!
 //! usage: PROGRAM [--reals N] [--words N] [--rows N] [--report N] < part file > answer
 //!        PROGRAM --batch [..] < stream > stream     any number of part files, each after its length (u32, little-endian); so the answers
-//!        PROGRAM --lists < stream > stream          the same, but what is answered for a file is what the Rust finds on the way to its report
 //! The numbers are the sizes that a caller lends: f64 and u32 scratch, fault rows, report bytes. Without them there is enough.
-//!
-//! --lists answers in u32 and in bits of f64, all little-endian. A refusal from 1 to 9 is its number. Else there are
-//!     u32 0, polygons, segments, faces, bodies: how many of each; then
-//!     for each polygon     f64 normal (3), w, area (`poly_area`), centroid (3, dfm.rs `centroid`)
-//!     for each segment     u32 polygon, polygon; f64 end (3), end (3): as `shared_segments` gives them
-//!     for each face        u32 feature, index, kind, n; f64 origin (3), direction (3), radius, area; n u32 polygons: as `Part::new` has them
-//!     for each body        u32 lowest polygon, n; f64 volume; n u32 polygons: `hollows` before it leaves those out that are not hollow
 mod check;
 mod dfm;
-mod lists;
 mod material;
 mod math;
 mod part;
@@ -35,25 +26,14 @@ fn answer_text(bytes: &[u8], lent: &Lent) -> String {
     answer.unwrap_or_else(|number| format!("refused {number}\n"))
 }
 
-fn lists_bytes(bytes: &[u8]) -> Vec<u8> {
-    match part::read(bytes) {
-        Ok(file) => lists::Lists::of(&file.body).bytes(),
-        Err(number) => number.to_le_bytes().to_vec(),
-    }
-}
-
 fn main() -> io::Result<()> {
     let mut lent = Lent { reals: usize::MAX, words: usize::MAX, rows: usize::MAX, report: usize::MAX };
-    let (mut batch, mut lists) = (false, false);
+    let mut batch = false;
     let mut args = std::env::args().skip(1);
     while let Some(arg) = args.next() {
         let size = match arg.as_str() {
             "--batch" => {
                 batch = true;
-                continue;
-            }
-            "--lists" => {
-                (batch, lists) = (true, true);
                 continue;
             }
             "--reals" => &mut lent.reals,
@@ -74,9 +54,9 @@ fn main() -> io::Result<()> {
     while !rest.is_empty() {
         let n = u32::from_le_bytes(rest[..4].try_into().unwrap()) as usize;
         let file = &rest[4..4 + n];
-        let answer = if lists { lists_bytes(file) } else { answer_text(file, &lent).into_bytes() };
+        let answer = answer_text(file, &lent);
         out.write_all(&(answer.len() as u32).to_le_bytes())?;
-        out.write_all(&answer)?;
+        out.write_all(answer.as_bytes())?;
         rest = &rest[4 + n..];
     }
     out.flush()

@@ -29,10 +29,6 @@ impl Measures<'_> {
         Measures(dfm::Part::new(solid))
     }
 
-    pub fn faces(&self) -> usize {
-        self.0.faces.len()
-    }
-
     pub fn readings(&self) -> Vec<Sample> {
         self.0.thickness_samples()
     }

@@ -1,2 +1,0 @@
--- Laws behind the probe of many roots.
-pub mod Each

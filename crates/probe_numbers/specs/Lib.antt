@@ -1,2 +1,0 @@
--- What the probe of many roots means.
-pub mod Each

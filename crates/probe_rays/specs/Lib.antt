@@ -1,4 +1,0 @@
--- Many rays through a part file.
-pub mod Rays
-pub mod Cast
-pub mod Open

@@ -1,0 +1,56 @@
+//! Areas, planes and centroids of polygons, as document 01 and the Rust have them.
+use crate::mesh::{Point, Polygon};
+
+pub fn area(v: &[Point]) -> f64 {
+    (1..v.len() - 1).fold(0.0, |sum, i| sum + length(cross(minus(v[i], v[0]), minus(v[i + 1], v[0]))) * 0.5)
+}
+
+/// Newell's sum, as `Polygon::new` forms it.
+fn normal_sum(v: &[Point]) -> Point {
+    let mut n = [0.0; 3];
+    for i in 0..v.len() {
+        let (a, b) = (v[i], v[(i + 1) % v.len()]);
+        n[0] += (a[1] - b[1]) * (a[2] + b[2]);
+        n[1] += (a[2] - b[2]) * (a[0] + b[0]);
+        n[2] += (a[0] - b[0]) * (a[1] + b[1]);
+    }
+    n
+}
+
+/// Normal and w.
+pub fn plane(polygon: &Polygon) -> (Point, f64) {
+    let v = &polygon.points;
+    let sum = normal_sum(v);
+    let normal = sum.map(|c| c / length(sum));
+    let middle = v.iter().fold([0.0; 3], |s, p| plus(s, *p)).map(|c| c / v.len() as f64);
+    (normal, dot(normal, middle))
+}
+
+/// dfm.rs's own: times one over n.
+pub fn centroid(v: &[Point]) -> Point {
+    times(v.iter().fold([0.0; 3], |s, p| plus(s, *p)), 1.0 / v.len() as f64)
+}
+
+pub fn plus(a: Point, b: Point) -> Point {
+    [a[0] + b[0], a[1] + b[1], a[2] + b[2]]
+}
+
+pub fn minus(a: Point, b: Point) -> Point {
+    [a[0] - b[0], a[1] - b[1], a[2] - b[2]]
+}
+
+pub fn times(a: Point, s: f64) -> Point {
+    a.map(|c| c * s)
+}
+
+pub fn dot(a: Point, b: Point) -> f64 {
+    a[0] * b[0] + a[1] * b[1] + a[2] * b[2]
+}
+
+pub fn cross(a: Point, b: Point) -> Point {
+    [a[1] * b[2] - a[2] * b[1], a[2] * b[0] - a[0] * b[2], a[0] * b[1] - a[1] * b[0]]
+}
+
+pub fn length(v: Point) -> f64 {
+    dot(v, v).sqrt()
+}
