@@ -11,15 +11,8 @@ use oracle::measures::{Measures, Round};
 use oracle::solid::{FaceId, Solid, SurfaceKind};
 use std::collections::BTreeMap;
 
-/// What is to occur, and how often at the least.
-const WANTED: [(&str, u64); 25] = [
-    ("accepted", 150_000),
-    ("refused 1 to 7", 300),
-    ("refused 8", 300),
-    ("refused 9", 20),
-    ("no polygons", 300),
-    ("no faults", 300),
-    ("equal faults", 300),
+/// What is to occur beside what every process has, and how often at the least.
+const WANTED: [(&str, u64); 13] = [
     ("Thin wall, Error", 1_000),
     ("Thin wall, Warning", 1_000),
     ("Small hole, Warning", 1_000),
@@ -29,12 +22,7 @@ const WANTED: [(&str, u64); 25] = [
     ("Deep inside corner, Warning", 1_000),
     ("Sharp inside corner, Warning", 1_000),
     ("one face twice", 300),
-    ("ids against the order of numbers", 1_000),
     ("a material's min_wall that is not above 0", 1_000),
-    ("fewer rows than faults", 1_000),
-    ("2047 faults", 2),
-    ("2048 faults", 2),
-    ("2049 faults", 2),
     ("a corner of several segments with other midpoints", 1_000),
     ("the last midpoint decides", 300),
     ("the first normals decide", 300),
@@ -66,7 +54,7 @@ impl Rules for Machining {
     const PROCESSES: &'static [u32] = &[0];
 
     fn wanted() -> Counts {
-        Counts::wanted(&WANTED, &LIMITS)
+        Counts::of_rules(&WANTED, &LIMITS)
     }
 
     fn note(counts: &mut Counts, mesh: &Mesh, faces: &[Id], part: &Part, report: &DfmReport) {

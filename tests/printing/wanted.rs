@@ -9,20 +9,8 @@ use crate::steps::Steps;
 use crate::ups;
 use oracle::faults::{DfmReport, Part};
 
-/// What is to occur, and how often at the least.
-const WANTED: [(&str, u64); 84] = [
-    ("accepted", 150_000),
-    ("refused 1 to 7", 300),
-    ("refused 8", 300),
-    ("refused 9", 20),
-    ("no polygons", 300),
-    ("no faults", 300),
-    ("equal faults", 300),
-    ("fewer rows than faults", 1_000),
-    ("2047 faults", 2),
-    ("2048 faults", 2),
-    ("2049 faults", 2),
-    ("ids against the order of numbers", 1_000),
+/// What is to occur beside what every process has, and how often at the least.
+const WANTED: [(&str, u64); 72] = [
     ("FDM", 50_000),
     ("SLA", 50_000),
     ("SLS", 50_000),
@@ -135,7 +123,7 @@ impl Rules for Printing {
     const PROCESSES: &'static [u32] = &jobs::PROCESSES;
 
     fn wanted() -> Counts {
-        Counts::wanted(&[&WANTED[..], &CHANGES[..]].concat(), &LIMITS)
+        Counts::of_rules(&[&WANTED[..], &CHANGES[..]].concat(), &LIMITS)
     }
 
     fn note(counts: &mut Counts, mesh: &Mesh, faces: &[Id], part: &Part, report: &DfmReport) {

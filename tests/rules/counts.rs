@@ -13,6 +13,22 @@ pub const SMALL: usize = 300;
 const SIDES: [&str; 3] = ["below", "on the limit", "above"];
 const LEAST_AT_A_LIMIT: u64 = 100;
 
+/// What occurs by the rules of any process.
+const OF_RULES: [(&str, u64); 12] = [
+    ("accepted", 150_000),
+    ("refused 1 to 7", 300),
+    ("refused 8", 300),
+    ("refused 9", 20),
+    ("no polygons", 300),
+    ("no faults", 300),
+    ("equal faults", 300),
+    ("fewer rows than faults", 1_000),
+    ("2047 faults", 2),
+    ("2048 faults", 2),
+    ("2049 faults", 2),
+    ("ids against the order of numbers", 1_000),
+];
+
 struct Count {
     what: String,
     count: u64,
@@ -27,6 +43,11 @@ impl Counts {
         let things = things.iter().map(|(what, least)| (what.to_string(), *least));
         let limits = limits.iter().flat_map(|what| SIDES.map(|side| (format!("{what}, {side}"), LEAST_AT_A_LIMIT)));
         Counts(things.chain(limits).map(|(what, least)| Count { what, count: 0, least }).collect())
+    }
+
+    /// The same beside what occurs by the rules of any process.
+    pub fn of_rules(things: &[(&str, u64)], limits: &[&str]) -> Counts {
+        Counts::wanted(&[&OF_RULES[..], things].concat(), limits)
     }
 
     pub fn add(&mut self, what: &str, times: u64) {

@@ -10,19 +10,8 @@ use oracle::faults::{DfmReport, Finding, Part};
 use oracle::measures::Measures;
 use std::collections::HashSet;
 
-/// What is to occur, and how often at the least.
-const WANTED: [(&str, u64); 77] = [
-    ("accepted", 150_000),
-    ("refused 1 to 7", 300),
-    ("refused 8", 300),
-    ("refused 9", 20),
-    ("no polygons", 300),
-    ("no faults", 300),
-    ("equal faults", 300),
-    ("fewer rows than faults", 1_000),
-    ("2047 faults", 2),
-    ("2048 faults", 2),
-    ("2049 faults", 2),
+/// What is to occur beside what every process has, and how often at the least.
+const WANTED: [(&str, u64); 65] = [
     ("No material, Note", 1_000),
     ("Material, Error", 1_000),
     ("Not one thickness, Error", 1_000),
@@ -47,7 +36,6 @@ const WANTED: [(&str, u64); 77] = [
     ("a text with a name of 40 bytes", 300),
     ("a tight bend of no material", 300),
     ("a tight bend with a ratio of three decimals", 300),
-    ("ids against the order of numbers", 1_000),
     ("a face of several kinds", 300),
     ("no reading", 300),
     ("a reading of a face that no other is next to", 300),
@@ -125,7 +113,7 @@ impl Rules for Sheet {
     const PROCESSES: &'static [u32] = &[1];
 
     fn wanted() -> Counts {
-        Counts::wanted(&[&WANTED[..], &CHANGES[..]].concat(), &LIMITS)
+        Counts::of_rules(&[&WANTED[..], &CHANGES[..]].concat(), &LIMITS)
     }
 
     fn note(counts: &mut Counts, mesh: &Mesh, faces: &[Id], part: &Part, report: &DfmReport) {
