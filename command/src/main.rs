@@ -11,6 +11,8 @@ mod part;
 mod place;
 mod progress;
 mod range;
+#[cfg(test)]
+mod round_trips;
 mod show;
 
 use arguments::Command;
