@@ -4,9 +4,10 @@ use std::ffi::OsString;
 pub const HELP: &str = "\
 Checks machined, bent and printed parts before they are made.
 
-    gablemadder check [--json] FILE..   prints the report of each part file
-    gablemadder show FILE               prints a part file as text
-    gablemadder make TEXT > FILE        makes the part file from such a text
+    gablemadder check [--json] FILE..                    prints the report of each part file
+    gablemadder show FILE                                prints a part file as text
+    gablemadder make TEXT > FILE                         makes the part file from such a text
+    gablemadder picture [--from x,y,z] FILE > FILE.svg   draws a part with its findings
     gablemadder --help, --version
 
 A file named - is standard input. Words after -- are files.
@@ -14,6 +15,9 @@ A file named - is standard input. Words after -- are files.
 check prints a report as the library writes it, byte for byte; with several files a line `== FILE` stands before each report. With --json it prints
 one JSON object a line for each file: file, findings (severity, rule, count, faces, message), thickness, bends and height; or file and refusal (number,
 condition, place, advice); or file and error, where it cannot be read. Polygons, and the vertices of one, count from 0.
+
+picture draws the part as seen from a point in the direction x,y,z; without --from it looks from where most findings are seen. A part that has a
+shape but that the check refuses is drawn without findings, and the refusal is told.
 
 Status: 0 where no finding is an Error, 1 where one is, 2 where a part was refused or something could not be read or written. Of several files the
 worst counts. What is wrong is told in a line on standard error, and nothing of that file's report is printed. A reader of standard output that goes
@@ -27,6 +31,7 @@ pub enum Command {
     Check { files: Vec<OsString>, as_json: bool },
     Show { file: OsString },
     Make { text: OsString },
+    Picture { file: OsString, from: Option<[f64; 3]> },
 }
 
 /// The words after the command's name.
@@ -48,7 +53,20 @@ pub fn read(words: impl Iterator<Item = OsString>) -> Result<Command, String> {
         }
         "show" => Ok(Command::Show { file: rest.file()? }),
         "make" => Ok(Command::Make { text: rest.file()? }),
+        "picture" => {
+            let from = rest.value("--from").map(|text| direction(&text)).transpose()?;
+            Ok(Command::Picture { file: rest.file()?, from })
+        }
         other => Err(see_help(&format!("there is no command {other:?}"))),
+    }
+}
+
+/// Three numbers with commas between, not all of them zero.
+fn direction(text: &str) -> Result<[f64; 3], String> {
+    let numbers: Option<Vec<f64>> = text.split(',').map(|word| word.trim().parse().ok().filter(|x: &f64| x.is_finite())).collect();
+    match numbers.as_deref() {
+        Some(&[x, y, z]) if [x, y, z] != [0.0; 3] => Ok([x, y, z]),
+        _ => Err(see_help(&format!("--from takes a direction, such as 1,-2,1.5, and not {text:?}"))),
     }
 }
 
@@ -59,19 +77,25 @@ fn see_help(what: &str) -> String {
 /// What follows the command.
 struct Rest {
     options: Vec<String>,
+    values: Vec<(String, String)>,
     files: Vec<OsString>,
 }
 
 impl Rest {
-    fn of(words: impl Iterator<Item = OsString>) -> Rest {
-        let mut rest = Rest { options: Vec::new(), files: Vec::new() };
+    fn of(mut words: impl Iterator<Item = OsString>) -> Rest {
+        let mut rest = Rest { options: Vec::new(), values: Vec::new(), files: Vec::new() };
         let mut is_file = false;
-        for word in words {
+        while let Some(word) = words.next() {
             let text = word.to_string_lossy();
             if is_file || !text.starts_with('-') || text == "-" {
                 rest.files.push(word);
             } else if text == "--" {
                 is_file = true;
+            } else if text == "--from" {
+                let value = words.next().unwrap_or_default();
+                rest.values.push((text.into_owned(), value.to_string_lossy().into_owned()));
+            } else if let Some((name, value)) = text.split_once('=') {
+                rest.values.push((name.to_string(), value.to_string()));
             } else {
                 rest.options.push(text.into_owned());
             }
@@ -86,8 +110,15 @@ impl Rest {
         self.options.len() < count
     }
 
+    /// The value of this option, the last where it comes again; it is taken out.
+    fn value(&mut self, name: &str) -> Option<String> {
+        let last = self.values.iter().rfind(|(option, _)| option == name).map(|(_, value)| value.clone());
+        self.values.retain(|(option, _)| option != name);
+        last
+    }
+
     fn files(self) -> Result<Vec<OsString>, String> {
-        if let Some(option) = self.options.first() {
+        if let Some(option) = self.options.first().or(self.values.first().map(|(option, _)| option)) {
             return Err(see_help(&format!("there is no option {option:?} here")));
         }
         match self.files.is_empty() {

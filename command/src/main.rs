@@ -8,6 +8,7 @@ mod line;
 mod make;
 mod output;
 mod part;
+mod picture;
 mod place;
 mod progress;
 mod range;
@@ -52,6 +53,7 @@ fn run(command: Command) -> Result<Status, String> {
         Command::Check { files, as_json } => return check::run(&files, as_json),
         Command::Show { file } => output::put(show::text(&read_part(&file)?.1).as_bytes())?,
         Command::Make { text } => output::put(&make(&text)?)?,
+        Command::Picture { file, from } => return draw(&file, from),
     }
     Ok(Status::Good)
 }
@@ -63,6 +65,19 @@ fn read_part(name: &OsStr) -> Result<(Vec<u8>, part::Part), String> {
     match part::Part::read(&file) {
         Ok(part) => Ok((file, part)),
         Err(wrong) => Err(format!("{}: {}", input::name(name), place::tell(&file, wrong.refusal))),
+    }
+}
+
+/// Draws a part. Where the check refuses it, it is drawn without findings.
+fn draw(name: &OsStr, from: Option<[f64; 3]>) -> Result<Status, String> {
+    let (file, part) = read_part(name)?;
+    let report = gablemadder::check(&file);
+    let known = report.as_ref().ok();
+    let from = from.unwrap_or_else(|| picture::view(&part, known));
+    output::put(picture::svg(&part, known, from).as_bytes())?;
+    match report {
+        Ok(_) => Ok(Status::Good),
+        Err(refusal) => Err(format!("{}: {}", input::name(name), place::tell(&file, refusal))),
     }
 }
 

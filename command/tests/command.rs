@@ -166,7 +166,7 @@ fn a_refusal_says_where_and_what_to_do() {
 
 #[test]
 fn what_cannot_be_read_is_told() {
-    for command in ["check", "show", "make"] {
+    for command in ["check", "show", "make", "picture"] {
         refused(&run(&[command, "no/such.part"]), "no/such.part: there is no such file\n");
         refused(&run(&[command, env!("CARGO_MANIFEST_DIR")]), ": it is a folder, not a file\n");
         refused(&run(&[command, "/dev/zero"]), "/dev/zero: too long: over ");
@@ -174,6 +174,7 @@ fn what_cannot_be_read_is_told() {
     let empty = file("empty.part", b"");
     refused(&run(&["check", &empty]), ": 0 bytes. ");
     refused(&run(&["show", &empty]), ": 0 bytes. ");
+    refused(&run(&["picture", &empty]), ": 0 bytes. ");
     refused(&run(&["make", &empty]), ":1:1: expected \"part\", found the end of the text\n");
 }
 
@@ -189,7 +190,7 @@ fn a_huge_file_is_not_read() {
 
 #[test]
 fn a_full_disk_is_told() {
-    for words in [&["check", PLATE][..], &["check", "--json", PLATE], &["show", PLATE], &["--help"]] {
+    for words in [&["check", PLATE][..], &["check", "--json", PLATE], &["show", PLATE], &["picture", PLATE], &["--help"]] {
         let full = File::options().write(true).open("/dev/full").unwrap();
         refused(&gablemadder(words).stdout(full).output().unwrap(), "gablemadder: standard output: the disk is full\n");
     }
@@ -233,5 +234,10 @@ fn the_command_line_is_read() {
     refused(&run(&["check", "--jsn", PLATE]), "gablemadder: there is no option \"--jsn\" here; ");
     refused(&run(&["show", PLATE, PLATE]), "gablemadder: 2 files are named, where one is meant; ");
     refused(&run(&["show", "--json", PLATE]), "gablemadder: there is no option \"--json\" here; ");
+    refused(&run(&["check", "--from", "1,2,3", PLATE]), "gablemadder: there is no option \"--from\" here; ");
+    for from in ["1,2", "0,0,0", "1,2,x", "1,2,inf", ""] {
+        refused(&run(&["picture", PLATE, "--from", from]), "gablemadder: --from takes a direction, such as 1,-2,1.5, and not ");
+    }
+    refused(&run(&["picture", PLATE, "--from"]), "gablemadder: --from takes a direction, such as 1,-2,1.5, and not \"\"; ");
     refused(&run(&["check", "--", "--json"]), "--json: there is no such file\n");
 }
