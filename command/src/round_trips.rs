@@ -4,14 +4,22 @@ use crate::place::tell;
 use crate::{make, show};
 use gablemadder::{Checker, Refusal};
 use std::env;
+use std::fmt::{self, Display, Formatter};
 use std::fs;
 
 /// What a file was found to be.
-#[derive(Debug, Default)]
+#[derive(Default)]
 struct Tally {
     files: usize,
     well_formed: usize,
     with_place: usize,
+}
+
+impl Display for Tally {
+    fn fmt(&self, f: &mut Formatter) -> fmt::Result {
+        let Tally { files, well_formed, with_place } = self;
+        write!(f, "round trips: {files} files, {well_formed} of them well formed and made again byte for byte; {with_place} refusals with a place")
+    }
 }
 
 impl Tally {
@@ -106,8 +114,7 @@ fn of_the_replayed_files() {
             (0..200).for_each(|_| tally.test(&mut checker, &damaged(&file, &mut random)));
         }
     }
-    println!("{tally:?}");
-    assert!(tally.well_formed > 10_000 && tally.with_place > 10_000, "{tally:?}");
+    assert!(tally.well_formed > 10_000 && tally.with_place > 10_000, "{tally}");
 }
 
 /// Of the files that tests/oracle/generate wrote to the file that GABLEMADDER_PARTS names, each after its length.
@@ -128,5 +135,5 @@ fn of_generated_files() {
         }
         rest = after;
     }
-    println!("{tally:?}");
+    println!("\n{tally}");
 }
