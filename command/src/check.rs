@@ -22,10 +22,14 @@ pub fn run(files: &[OsString], as_json: bool) -> Result<Status, String> {
                 Err(refusal) => Answer::Refused(place::tell(&file, refusal)),
             },
         };
-        progress.clear();
         worst = worst.max(answer.status());
-        answer.complain(&name);
-        output::put(answer.printed(&name, files.len() > 1, as_json).as_bytes())?;
+        if let Some(why) = answer.complaint() {
+            progress.clear();
+            complain(&format!("{name}: {why}"));
+        }
+        let printed = if as_json { answer.json(&path.to_string_lossy()) } else { answer.text(&name, files.len() > 1) };
+        progress.clear_for_report();
+        output::put(printed.as_bytes())?;
     }
     Ok(worst)
 }
@@ -46,23 +50,29 @@ impl Answer<'_> {
         }
     }
 
-    fn complain(&self, name: &str) {
+    /// Why there is no report.
+    fn complaint(&self) -> Option<String> {
         match self {
-            Answer::Report(_) => {}
-            Answer::Refused(told) => complain(&format!("{name}: {told}")),
-            Answer::Unread(why) => complain(&format!("{name}: {why}")),
+            Answer::Report(_) => None,
+            Answer::Refused(told) => Some(told.to_string()),
+            Answer::Unread(why) => Some(why.clone()),
         }
     }
 
-    /// What goes to standard output: of a file that has no report nothing, unless it is for a script.
-    fn printed(&self, name: &str, is_named: bool, as_json: bool) -> String {
+    /// The report, after the file's name where there are several files.
+    fn text(&self, name: &str, is_named: bool) -> String {
         match self {
-            Answer::Report(report) if as_json => json::report(name, report),
             Answer::Report(report) if is_named => format!("== {name}\n{report}"),
             Answer::Report(report) => report.to_string(),
-            Answer::Refused(told) if as_json => json::refusal(name, told),
-            Answer::Unread(why) if as_json => json::error(name, why),
-            _ => String::new(),
+            Answer::Refused(_) | Answer::Unread(_) => String::new(),
+        }
+    }
+
+    fn json(&self, name: &str) -> String {
+        match self {
+            Answer::Report(report) => json::report(name, report),
+            Answer::Refused(told) => json::refusal(name, told),
+            Answer::Unread(why) => json::error(name, why),
         }
     }
 }

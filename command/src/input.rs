@@ -7,11 +7,13 @@ use std::io::{self, ErrorKind, Read};
 /// Bytes of the longest text of a part: 16,384 vertices take less than two millions of them.
 pub const MOST_TEXT: usize = 1 << 24;
 
-/// A file as it is called where people read it.
+/// A file as it is called where people read it, on one line.
 pub fn name(path: &OsStr) -> Cow<'_, str> {
-    match path == "-" {
-        true => Cow::Borrowed("standard input"),
-        false => path.to_string_lossy(),
+    let name = path.to_string_lossy();
+    match &*name {
+        "-" => Cow::Borrowed("standard input"),
+        text if text.contains(char::is_control) => Cow::Owned(text.escape_debug().to_string()),
+        _ => name,
     }
 }
 

@@ -7,6 +7,8 @@ const BETWEEN: Duration = Duration::from_millis(100);
 pub struct Progress {
     of: usize,
     is_on: bool,
+    /// Whether reports come out on the terminal too.
+    is_shared: bool,
     is_shown: bool,
     next: Instant,
 }
@@ -14,7 +16,8 @@ pub struct Progress {
 impl Progress {
     /// For so many files; nothing is shown for one, nor where standard error is no terminal.
     pub fn new(of: usize) -> Progress {
-        Progress { of, is_on: of > 1 && io::stderr().is_terminal(), is_shown: false, next: Instant::now() + BETWEEN }
+        let is_on = of > 1 && io::stderr().is_terminal();
+        Progress { of, is_on, is_shared: io::stdout().is_terminal(), is_shown: false, next: Instant::now() + BETWEEN }
     }
 
     /// File `number` comes next, from 0.
@@ -27,11 +30,24 @@ impl Progress {
         }
     }
 
-    /// Takes the line away, before anything else is printed.
+    /// Makes room for a report on standard output.
+    pub fn clear_for_report(&mut self) {
+        if self.is_shared {
+            self.clear();
+        }
+    }
+
+    /// Takes the line away, before anything else is said on standard error.
     pub fn clear(&mut self) {
         if self.is_shown {
             let _ = write!(io::stderr(), "\r\x1b[K");
             self.is_shown = false;
         }
+    }
+}
+
+impl Drop for Progress {
+    fn drop(&mut self) {
+        self.clear();
     }
 }

@@ -170,6 +170,7 @@ fn what_cannot_be_read_is_told() {
         refused(&run(&[command, "no/such.part"]), "no/such.part: there is no such file\n");
         refused(&run(&[command, env!("CARGO_MANIFEST_DIR")]), ": it is a folder, not a file\n");
         refused(&run(&[command, "/dev/zero"]), "/dev/zero: too long: over ");
+        refused(&run(&[command, "no\nsuch"]), "no\\nsuch: there is no such file\n");
     }
     let empty = file("empty.part", b"");
     refused(&run(&["check", &empty]), ": 0 bytes. ");
