@@ -20,10 +20,11 @@ impl Edge {
         self.balance == 0
     }
 
-    /// Whether it is drawn from every direction: at a border, between faces, or where a face turns sharply.
+    /// Whether it is drawn from every direction: at a border, between faces, or where a face turns sharply from polygon to polygon.
     pub fn is_sharp(&self, facets: &[Facet]) -> bool {
-        let first = &facets[self.facets[0]];
-        self.facets.len() != 2 || self.facets.iter().any(|&i| facets[i].face != first.face || dot(facets[i].normal, first.normal) < SHARP)
+        let [i, j] = self.facets[..] else { return true };
+        let (a, b) = (&facets[i], &facets[j]);
+        a.face != b.face || a.polygon != b.polygon && dot(a.normal, b.normal) < SHARP
     }
 
     /// Whether two faces meet here and each rises from the other.
@@ -108,7 +109,7 @@ mod tests {
     use super::*;
 
     fn facet(face: usize, corners: &[Point]) -> Facet {
-        Facet { face, corners: corners.to_vec(), normal: [0.0, 0.0, 1.0] }
+        Facet { polygon: 0, face, corners: corners.to_vec(), normal: [0.0, 0.0, 1.0], look: [0.0, 0.0, 1.0] }
     }
 
     #[test]

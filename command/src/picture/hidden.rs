@@ -1,11 +1,14 @@
 //! Which parts of a line are seen.
 use super::piece::Piece;
-use super::vector::Point;
+use super::vector::{between, Point};
 
 /// Pixels on a side of the squares in which pieces are looked up.
 const SQUARE: f64 = 24.0;
 /// A piece hides only what lies farther behind it, in pixels: an edge lies on the pieces that it bounds.
 const MARGIN: f64 = 0.05;
+
+/// Shorter parts of a line that is seen only in parts are left out, in pixels.
+const SHORT: f64 = 0.7;
 
 /// Pieces by the squares of the picture that they reach into.
 pub struct Cover<'a> {
@@ -43,7 +46,7 @@ impl<'a> Cover<'a> {
     }
 
     /// The parts of the way from a to b that no piece hides, by what share of the way they begin and end at.
-    pub fn seen(&self, a: Point, b: Point) -> Vec<(f64, f64)> {
+    fn seen(&self, a: Point, b: Point) -> Vec<(f64, f64)> {
         let (lo, hi) = ([a[0].min(b[0]), a[1].min(b[1])], [a[0].max(b[0]), a[1].max(b[1])]);
         let near = self.near(lo, hi);
         let mut hidden: Vec<(f64, f64)> = near.iter().filter_map(|&i| self.pieces[i as usize].hides(a, b, MARGIN)).collect();
@@ -60,6 +63,14 @@ impl<'a> Cover<'a> {
             seen.push((from, 1.0));
         }
         seen
+    }
+
+    /// The same by where the parts begin and end; dots that are left of a hidden line are left out.
+    pub fn seen_lines(&self, [a, b]: [Point; 2]) -> Vec<[Point; 2]> {
+        let (x, y) = (b[0] - a[0], b[1] - a[1]);
+        let length = (x * x + y * y).sqrt();
+        let parts = self.seen(a, b).into_iter().filter(|&(s, t)| (t - s) * length > SHORT || t - s == 1.0);
+        parts.map(|(s, t)| [between(a, b, s), between(a, b, t)]).collect()
     }
 
     pub fn sees(&self, p: Point) -> bool {

@@ -21,13 +21,13 @@ use crate::part::Part;
 use edges::Edge;
 use gablemadder::{Face, Report, Rule};
 use hidden::Cover;
-use mesh::Mesh;
+use mesh::{Facet, Mesh};
 use notes::{Flags, Note};
 use piece::Piece;
 use raster::Raster;
 use std::fmt::Write;
 use tags::{Sight, Tag};
-use vector::{between, length, normal, unit, Point};
+use vector::{length, Point};
 use view::Canvas;
 use write::{chains, number, path, spot, spots, Spot};
 
@@ -58,7 +58,7 @@ pub fn svg(part: &Part, report: Option<&Report>, from: [f64; 3]) -> String {
     axes(&mut body, &canvas);
     body.push_str("</g>\n");
     let names: Vec<String> = mesh.faces.iter().map(Face::to_string).collect();
-    let end = legend::write(&mut body, &notes, &names, |face| sight.sees(face), TOP + canvas.height + 24.0, WIDTH);
+    let end = legend::write(&mut body, &notes, &names, |face| sight.sees(face), TOP + canvas.height + 28.0, WIDTH);
     document(&legend::title(part, report), &body, end)
 }
 
@@ -89,15 +89,18 @@ fn face(mesh: &Mesh, piece: &Piece) -> usize {
 
 /// What of the mesh is painted: of a solid body only what faces the viewer.
 fn pieces(mesh: &Mesh, flags: &Flags, canvas: &Canvas) -> Vec<Piece> {
-    let piece = |(facet, corners): &(usize, Vec<Point>)| {
-        let normal = canvas.turn(unit(normal(corners)));
+    let piece = |(i, facet): (usize, &Facet)| {
+        let normal = canvas.turn(facet.normal);
         if mesh.is_solid && normal[2] <= 0.0 {
             return None;
         }
-        let colour = colour::shaded(flags.worst(mesh.facets[*facet].face), normal);
-        Piece::new(*facet, colour, corners.iter().map(|&p| canvas.place(p)).collect(), normal)
+        let look = canvas.turn(facet.look);
+        // A polygon may be bent so far that a part of it faces the other way.
+        let look = if look[2] * normal[2] < 0.0 { normal } else { look };
+        let colour = colour::shaded(flags.worst(facet.face), look);
+        Piece::new(i, colour, facet.corners.iter().map(|&p| canvas.place(p)).collect(), normal)
     };
-    mesh.pieces.iter().filter_map(piece).collect()
+    mesh.facets.iter().enumerate().filter_map(piece).collect()
 }
 
 fn rastered(mesh: &Mesh, pieces: &[Piece], canvas: &Canvas, cell: f64) -> Raster {
@@ -127,8 +130,7 @@ fn lines(out: &mut String, mesh: &Mesh, canvas: &Canvas, cover: &Cover) {
         if mesh.is_solid && fronts == 0 || !is_outer && !edge.is_sharp(&mesh.facets) {
             continue;
         }
-        let [a, b] = edge.ends.map(|p| canvas.place(p));
-        let seen = cover.seen(a, b).into_iter().map(|(s, t)| [spot(between(a, b, s)), spot(between(a, b, t))]);
+        let seen = cover.seen_lines(edge.ends.map(|p| canvas.place(p))).into_iter().map(|line| line.map(spot));
         if is_outer { &mut outer } else { &mut inner }.extend(seen);
     }
     out.push_str("<g fill=\"none\" stroke=\"#27303a\" stroke-linecap=\"round\" stroke-linejoin=\"round\">\n");
@@ -152,8 +154,7 @@ fn corners(out: &mut String, mesh: &Mesh, notes: &[Note], canvas: &Canvas, cover
         let is_named = |edge: &&Edge| edge.facets.iter().all(|&i| note.faces.contains(&mesh.facets[i].face));
         let mut heavy = vec![];
         for edge in mesh.edges.iter().filter(|edge| edge.is_inside_corner(&mesh.facets)).filter(is_named) {
-            let [a, b] = edge.ends.map(|p| canvas.place(p));
-            heavy.extend(cover.seen(a, b).into_iter().map(|(s, t)| [spot(between(a, b, s)), spot(between(a, b, t))]));
+            heavy.extend(cover.seen_lines(edge.ends.map(|p| canvas.place(p))).into_iter().map(|line| line.map(spot)));
         }
         stroke(out, &heavy, &format!("stroke=\"{}\"", colour::hex(colour::darkest(note.finding.severity))));
     }
@@ -192,7 +193,7 @@ fn numbers(out: &mut String, tags: &[Tag]) {
 
 /// The directions of x, y and z, in the corner below on the left.
 fn axes(out: &mut String, canvas: &Canvas) {
-    let (x, y) = (46.0, canvas.height - 34.0);
+    let (x, y) = (46.0, canvas.height - 38.0);
     let mut all: Vec<(Point, &str)> = ["x", "y", "z"].into_iter().enumerate().map(|(i, name)| (axis(canvas, i), name)).collect();
     all.sort_by(|a, b| a.0[2].total_cmp(&b.0[2]));
     for (way, name) in all {

@@ -54,8 +54,33 @@ impl Flags {
 
     /// The numbers that a tag on the face shows.
     pub fn text(&self, face: usize) -> String {
-        let shown: Vec<String> = self.numbers[face].iter().take(3).map(usize::to_string).collect();
-        let more = if self.numbers[face].len() > 3 { "…" } else { "" };
-        format!("{}{more}", shown.join(","))
+        runs(&self.numbers[face])
+    }
+}
+
+/// Rising numbers, three and more in a row as the first and the last: `1,3–5`. Of more than three such terms the others are left out.
+fn runs(numbers: &[usize]) -> String {
+    let mut terms = vec![];
+    for run in numbers.chunk_by(|a, b| a + 1 == *b) {
+        match run {
+            [first, .., last] if run.len() > 2 => terms.push(format!("{first}–{last}")),
+            _ => terms.extend(run.iter().map(usize::to_string)),
+        }
+    }
+    let more = if terms.len() > 3 { "…" } else { "" };
+    terms.truncate(3);
+    format!("{}{more}", terms.join(","))
+}
+
+#[cfg(test)]
+mod tests {
+    use super::*;
+
+    #[test]
+    fn numbers_in_a_row_are_drawn_together() {
+        assert_eq!(runs(&[2]), "2");
+        assert_eq!(runs(&[1, 2]), "1,2");
+        assert_eq!(runs(&[1, 3, 4, 5]), "1,3–5");
+        assert_eq!(runs(&[1, 3, 5, 7, 8, 9]), "1,3,5…");
     }
 }

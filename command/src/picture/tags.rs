@@ -58,9 +58,9 @@ impl Sight {
             }
         }
         let (mut points, mut middles, mut largest) = (vec![None; faces], vec![None; faces], vec![0.0; faces]);
-        for (facet, corners) in &mesh.pieces {
-            let (face, normal) = (mesh.facets[*facet].face, normal(corners));
-            let middle = canvas.place(mean(corners));
+        for facet in &mesh.facets {
+            let (face, normal) = (facet.face, normal(&facet.corners));
+            let middle = canvas.place(mean(&facet.corners));
             let at = [middle[0], middle[1]];
             if length(normal) > largest[face] {
                 (largest[face], middles[face]) = (length(normal), Some(at));
