@@ -66,9 +66,10 @@ fn damaged(file: &[u8], random: &mut Random) -> Vec<u8> {
     let tail = (VERTEX + 2 * POLYGON + JOB + TRAILER).min(file.len());
     let from = if random.below(4) == 0 { 0 } else { file.len() - tail };
     let at = from + random.below((file.len() - from) / 4) * 4;
-    match random.below(4) {
+    match random.below(5) {
         0 if at + 8 <= file.len() => file[at..at + 8].copy_from_slice(&reals[random.below(reals.len())].to_le_bytes()),
         1 => file[at + random.below(4)] ^= 1 << random.below(8),
+        2 => file[at + random.below(4)] = [0x1f, 0x20, 0x22, 0x5c, 0x7e, 0x7f][random.below(6)],
         _ => file[at..at + 4].copy_from_slice(&words[random.below(words.len())].to_le_bytes()),
     }
     file
