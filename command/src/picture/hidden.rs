@@ -37,30 +37,38 @@ impl<'a> Cover<'a> {
         (top..=bottom).flat_map(|row| (left..=right).map(move |column| row * self.columns + column)).collect()
     }
 
-    /// The pieces near a box, each once.
-    fn near(&self, lo: [f64; 2], hi: [f64; 2]) -> Vec<u32> {
-        let mut all: Vec<u32> = self.within(lo, hi).into_iter().flat_map(|square| self.squares[square].iter().copied()).collect();
-        all.sort_unstable();
-        all.dedup();
-        all
+    fn at(&self, x: f64, y: f64) -> impl Iterator<Item = &'a Piece> + '_ {
+        let square = self.within([x, y], [x, y])[0];
+        // The nearest first: after them most lines are known to be hidden.
+        self.squares[square].iter().rev().map(|&i| &self.pieces[i as usize])
     }
 
     /// The parts of the way from a to b that no piece hides, by what share of the way they begin and end at.
     fn seen(&self, a: Point, b: Point) -> Vec<(f64, f64)> {
-        let (lo, hi) = ([a[0].min(b[0]), a[1].min(b[1])], [a[0].max(b[0]), a[1].max(b[1])]);
-        let near = self.near(lo, hi);
-        let mut hidden: Vec<(f64, f64)> = near.iter().filter_map(|&i| self.pieces[i as usize].hides(a, b, MARGIN)).collect();
-        hidden.sort_by(|p, q| p.0.total_cmp(&q.0));
-        let mut seen = vec![];
-        let mut from = 0.0;
-        for (start, end) in hidden {
-            if start > from {
-                seen.push((from, start));
+        let mut seen: Vec<(f64, f64)> = vec![];
+        for pair in stops(a, b).windows(2) {
+            let (from, to) = (pair[0], pair[1]);
+            let (p, q) = (between(a, b, from), between(a, b, to));
+            for (s, t) in self.seen_in_square(p, q) {
+                let share = |t: f64| if t == 1.0 { to } else { from + (to - from) * t };
+                match seen.last_mut() {
+                    Some(last) if last.1 == share(s) => last.1 = share(t),
+                    _ => seen.push((share(s), share(t))),
+                }
             }
-            from = end.max(from);
         }
-        if from < 1.0 {
-            seen.push((from, 1.0));
+        seen
+    }
+
+    /// The same of a way within a square.
+    fn seen_in_square(&self, a: Point, b: Point) -> Vec<(f64, f64)> {
+        let mut seen: Vec<(f64, f64)> = vec![(0.0, 1.0)];
+        for piece in self.at(0.5 * (a[0] + b[0]), 0.5 * (a[1] + b[1])) {
+            let Some((start, end)) = piece.hides(a, b, MARGIN) else { continue };
+            seen = seen.into_iter().flat_map(|(s, t)| [(s, t.min(start)), (s.max(end), t)]).filter(|(s, t)| s < t).collect();
+            if seen.is_empty() {
+                break;
+            }
         }
         seen
     }
@@ -74,9 +82,21 @@ impl<'a> Cover<'a> {
     }
 
     pub fn sees(&self, p: Point) -> bool {
-        let at = [p[0], p[1]];
-        !self.near(at, at).iter().any(|&i| self.pieces[i as usize].hides_point(p, MARGIN))
+        !self.at(p[0], p[1]).any(|piece| piece.hides_point(p, MARGIN))
     }
+}
+
+/// From 0 to 1, with all shares of the way from a to b at which it goes from a square to the next.
+fn stops(a: Point, b: Point) -> Vec<f64> {
+    let mut all = vec![0.0, 1.0];
+    for i in 0..2 {
+        let (lo, hi) = (a[i].min(b[i]), a[i].max(b[i]));
+        let (first, last) = ((lo / SQUARE).floor() as i64 + 1, (hi / SQUARE).ceil() as i64 - 1);
+        all.extend((first..=last).map(|k| (k as f64 * SQUARE - a[i]) / (b[i] - a[i])).filter(|t| (0.0..1.0).contains(t)));
+    }
+    all.sort_by(f64::total_cmp);
+    all.dedup();
+    all
 }
 
 #[cfg(test)]
@@ -88,7 +108,9 @@ mod tests {
     fn a_line_between_two_squares() {
         let pieces = [square(0, 10.0, 0.0, 5.0), square(1, 60.0, 0.0, 5.0), square(2, 65.0, 0.0, 7.0), square(3, 30.0, 0.0, -5.0)];
         let cover = Cover::new(&pieces, 100.0, 20.0);
-        assert_eq!(cover.seen([0.0, 5.0, 0.0], [100.0, 5.0, 0.0]), [(0.0, 0.1), (0.2, 0.6), (0.75, 1.0)]);
+        let lines = cover.seen_lines([[0.0, 5.0, 0.0], [100.0, 5.0, 0.0]]);
+        let ends: Vec<[i64; 2]> = lines.iter().map(|line| line.map(|p| (1e6 * p[0]).round() as i64)).collect();
+        assert_eq!(ends, [[0, 10], [20, 60], [75, 100]].map(|line| line.map(|x| x * 1_000_000)));
         assert_eq!(cover.seen([12.0, 5.0, 0.0], [18.0, 5.0, 0.0]), []);
         assert!(cover.sees([35.0, 5.0, 0.0]) && !cover.sees([15.0, 5.0, 0.0]));
     }

@@ -126,7 +126,7 @@ fn lines(out: &mut String, mesh: &Mesh, canvas: &Canvas, cover: &Cover) {
     let (mut inner, mut outer) = (vec![], vec![]);
     for edge in &mesh.edges {
         let fronts = edge.facets.iter().filter(|&&i| canvas.turn(mesh.facets[i].normal)[2] > 0.0).count();
-        let is_outer = fronts < edge.facets.len() && (fronts > 0 || !mesh.is_solid);
+        let is_outer = fronts > 0 && fronts < edge.facets.len();
         if mesh.is_solid && fronts == 0 || !is_outer && !edge.is_sharp(&mesh.facets) {
             continue;
         }

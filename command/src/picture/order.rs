@@ -4,7 +4,7 @@ use super::tree;
 use std::collections::{BTreeMap, BTreeSet};
 
 /// With more pairs that cover each other the tree sorts all pieces at once.
-const MOST_PAIRS: usize = 2_000_000;
+const MOST_PAIRS: usize = 600_000;
 
 /// The pieces from back to front. Where they cross each other, or each lies over the next in a ring, some are cut.
 pub fn sorted(pieces: Vec<Piece>) -> Vec<Piece> {

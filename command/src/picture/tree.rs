@@ -3,8 +3,9 @@ use super::piece::{Piece, SAME};
 
 /// How many planes are tried at each step.
 const TRIES: usize = 6;
-/// How many pieces a group may be cut into for each that it had.
-const MOST_CUTS: usize = 4;
+/// How many cuts there may be: so many, and some for each piece.
+const CUTS: usize = 200;
+const CUTS_EACH: usize = 2;
 
 enum Task {
     Sort(Vec<Piece>),
@@ -13,7 +14,7 @@ enum Task {
 
 /// From back to front. The nodes of the tree wait on a stack, so that no depth is too great.
 pub fn sorted(pieces: Vec<Piece>) -> Vec<Piece> {
-    let mut cuts = MOST_CUTS * pieces.len();
+    let mut cuts = CUTS + CUTS_EACH * pieces.len();
     let mut stack = vec![Task::Sort(pieces)];
     let mut all = vec![];
     while let Some(task) = stack.pop() {
@@ -64,7 +65,7 @@ fn divided(pieces: Vec<Piece>, cuts: &mut usize) -> [Vec<Piece>; 3] {
                 near.extend(before);
                 far.extend(beyond);
             }
-            // Cut into so many already: it goes where its middle lies.
+            // There are enough cuts already: it goes where its middle lies.
             Place::Both => {
                 let side = piece.corners.iter().map(|&p| plane.above(p)).sum::<f64>();
                 if side > 0.0 { &mut near } else { &mut far }.push(piece);
