@@ -27,7 +27,7 @@ use piece::Piece;
 use raster::Raster;
 use std::fmt::Write;
 use tags::{Sight, Tag};
-use vector::{length, Point};
+use vector::{length, normal, sub, Point};
 use view::Canvas;
 use write::{chains, number, path, spot, spots, Spot};
 
@@ -36,6 +36,8 @@ const WIDTH: f64 = 960.0;
 const HEIGHTS: [f64; 2] = [180.0, 580.0];
 /// At the sides, and above and below.
 const MARGINS: [f64; 2] = [64.0, 36.0];
+/// Lines are faint where they are so near to each other, in pixels.
+const NARROW: f64 = 1.2;
 /// Above the drawing, for the title.
 const TOP: f64 = 64.0;
 
@@ -121,22 +123,35 @@ fn fills(out: &mut String, pieces: &[Piece]) {
     out.push_str("</g>\n");
 }
 
-/// The edges, as far as they are seen: thin ones inside, and heavier ones where the part turns away from the viewer.
+/// The edges, as far as they are seen: thin ones inside, heavier ones where the part turns away from the viewer, and faint ones where they crowd.
 fn lines(out: &mut String, mesh: &Mesh, canvas: &Canvas, cover: &Cover) {
-    let (mut inner, mut outer) = (vec![], vec![]);
+    let [mut inner, mut outer, mut crowded] = [vec![], vec![], vec![]];
     for edge in &mesh.edges {
-        let fronts = edge.facets.iter().filter(|&&i| canvas.turn(mesh.facets[i].normal)[2] > 0.0).count();
-        let is_outer = fronts > 0 && fronts < edge.facets.len();
-        if mesh.is_solid && fronts == 0 || !is_outer && !edge.is_sharp(&mesh.facets) {
+        let fronts: Vec<&Facet> = edge.facets.iter().map(|&i| &mesh.facets[i]).filter(|f| canvas.turn(f.normal)[2] > 0.0).collect();
+        let is_outer = !fronts.is_empty() && fronts.len() < edge.facets.len();
+        if mesh.is_solid && fronts.is_empty() || !is_outer && !edge.is_sharp(&mesh.facets) {
             continue;
         }
-        let seen = cover.seen_lines(edge.ends.map(|p| canvas.place(p))).into_iter().map(|line| line.map(spot));
-        if is_outer { &mut outer } else { &mut inner }.extend(seen);
+        let ends = edge.ends.map(|p| canvas.place(p));
+        let kind = match fronts.iter().any(|facet| is_narrow(facet, ends, canvas)) {
+            true => &mut crowded,
+            false if is_outer => &mut outer,
+            false => &mut inner,
+        };
+        kind.extend(cover.seen_lines(ends).into_iter().map(|line| line.map(spot)));
     }
     out.push_str("<g fill=\"none\" stroke=\"#27303a\" stroke-linecap=\"round\" stroke-linejoin=\"round\">\n");
+    stroke(out, &crowded, "stroke-width=\".4\" stroke-opacity=\".35\"");
     stroke(out, &inner, "stroke-width=\".6\"");
     stroke(out, &outer, "stroke-width=\"1.1\"");
     out.push_str("</g>\n");
+}
+
+/// Whether a facet is hardly wider, from one of its sides on, than the line there.
+fn is_narrow(facet: &Facet, [a, b]: [Point; 2], canvas: &Canvas) -> bool {
+    let corners: Vec<Point> = facet.corners.iter().map(|&p| canvas.place(p)).collect();
+    let (area, [x, y, _]) = (0.5 * normal(&corners)[2].abs(), sub(b, a));
+    area < NARROW * length([x, y, 0.0])
 }
 
 fn stroke(out: &mut String, lines: &[[Spot; 2]], style: &str) {
