@@ -1,0 +1,137 @@
+//! The command line.
+use std::ffi::OsString;
+
+pub const HELP: &str = "\
+Checks machined, bent and printed parts before they are made.
+
+    gablemadder check [--json] FILE..                    prints the report of each part file
+    gablemadder show FILE                                prints a part file as text
+    gablemadder make TEXT > FILE                         makes the part file from such a text
+    gablemadder picture [--from x,y,z] FILE > FILE.svg   draws a part with its findings
+    gablemadder --help, --version
+
+A file named - is standard input. Words after -- are files.
+
+check prints a report as the library writes it, byte for byte; with several files a line `== FILE` stands before each report. With --json it prints
+one JSON object a line for each file: file, findings (severity, rule, count, faces, message), thickness, bends and height; or file and refusal (number,
+condition, place, advice); or file and error, where it cannot be read. Polygons, and the vertices of one, count from 0.
+
+picture draws the part as seen from a point in the direction x,y,z; without --from it looks from where most findings are seen. A part that has a
+shape but that the check refuses is drawn without findings, and the refusal is told.
+
+Status: 0 where no finding is an Error, 1 where one is, 2 where a part was refused or something could not be read or written. Of several files the
+worst counts. What is wrong is told in a line on standard error, and nothing of that file's report is printed. A reader of standard output that goes
+away early, as in `gablemadder check FILE.. | head`, counts as output that could not be written.
+";
+
+#[derive(Debug, PartialEq)]
+pub enum Command {
+    Help,
+    Version,
+    Check { files: Vec<OsString>, as_json: bool },
+    Show { file: OsString },
+    Make { text: OsString },
+    Picture { file: OsString, from: Option<[f64; 3]> },
+}
+
+/// The words after the command's name.
+pub fn read(words: impl Iterator<Item = OsString>) -> Result<Command, String> {
+    let mut words = words.peekable();
+    let Some(first) = words.next() else {
+        return Err(see_help("no command is given"));
+    };
+    let mut rest = Rest::of(words);
+    if rest.option("--help") || rest.option("-h") {
+        return Ok(Command::Help);
+    }
+    match first.to_string_lossy().as_ref() {
+        "--help" | "-h" | "help" => Ok(Command::Help),
+        "--version" | "-V" => Ok(Command::Version),
+        "check" => {
+            let as_json = rest.option("--json");
+            Ok(Command::Check { files: rest.files()?, as_json })
+        }
+        "show" => Ok(Command::Show { file: rest.file()? }),
+        "make" => Ok(Command::Make { text: rest.file()? }),
+        "picture" => {
+            let from = rest.value("--from").map(|text| direction(&text)).transpose()?;
+            Ok(Command::Picture { file: rest.file()?, from })
+        }
+        other => Err(see_help(&format!("there is no command {other:?}"))),
+    }
+}
+
+/// Three numbers with commas between, not all of them zero.
+fn direction(text: &str) -> Result<[f64; 3], String> {
+    let numbers: Option<Vec<f64>> = text.split(',').map(|word| word.trim().parse().ok().filter(|x: &f64| x.is_finite())).collect();
+    match numbers.as_deref() {
+        Some(&[x, y, z]) if [x, y, z] != [0.0; 3] => Ok([x, y, z]),
+        _ => Err(see_help(&format!("--from takes a direction, such as 1,-2,1.5, and not {text:?}"))),
+    }
+}
+
+fn see_help(what: &str) -> String {
+    format!("gablemadder: {what}; `gablemadder --help` says how it is called")
+}
+
+/// What follows the command.
+struct Rest {
+    options: Vec<String>,
+    values: Vec<(String, String)>,
+    files: Vec<OsString>,
+}
+
+impl Rest {
+    fn of(mut words: impl Iterator<Item = OsString>) -> Rest {
+        let mut rest = Rest { options: Vec::new(), values: Vec::new(), files: Vec::new() };
+        let mut is_file = false;
+        while let Some(word) = words.next() {
+            let text = word.to_string_lossy();
+            if is_file || !text.starts_with('-') || text == "-" {
+                rest.files.push(word);
+            } else if text == "--" {
+                is_file = true;
+            } else if text == "--from" {
+                let value = words.next().unwrap_or_default();
+                rest.values.push((text.into_owned(), value.to_string_lossy().into_owned()));
+            } else if let Some((name, value)) = text.split_once('=') {
+                rest.values.push((name.to_string(), value.to_string()));
+            } else {
+                rest.options.push(text.into_owned());
+            }
+        }
+        rest
+    }
+
+    /// Whether this option is there; it is taken out.
+    fn option(&mut self, name: &str) -> bool {
+        let count = self.options.len();
+        self.options.retain(|option| option != name);
+        self.options.len() < count
+    }
+
+    /// The value of this option, the last where it comes again; it is taken out.
+    fn value(&mut self, name: &str) -> Option<String> {
+        let last = self.values.iter().rfind(|(option, _)| option == name).map(|(_, value)| value.clone());
+        self.values.retain(|(option, _)| option != name);
+        last
+    }
+
+    fn files(self) -> Result<Vec<OsString>, String> {
+        if let Some(option) = self.options.first().or(self.values.first().map(|(option, _)| option)) {
+            return Err(see_help(&format!("there is no option {option:?} here")));
+        }
+        match self.files.is_empty() {
+            true => Err(see_help("no file is named")),
+            false => Ok(self.files),
+        }
+    }
+
+    fn file(self) -> Result<OsString, String> {
+        let mut files = self.files()?;
+        match files.len() {
+            1 => Ok(files.remove(0)),
+            n => Err(see_help(&format!("{n} files are named, where one is meant"))),
+        }
+    }
+}

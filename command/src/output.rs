@@ -1,0 +1,27 @@
+//! Writing to standard output, all or nothing as far as the system lets it.
+use std::fs::File;
+use std::io::{self, ErrorKind, Write};
+use std::os::fd::AsFd;
+
+/// Writes all of it, or says why not. Where standard output is a file, a part that was written is taken back.
+pub fn put(bytes: &[u8]) -> Result<(), String> {
+    let mut out = File::from(io::stdout().as_fd().try_clone_to_owned().map_err(words)?);
+    let length = out.metadata().ok().filter(|about| about.is_file()).map(|about| about.len());
+    out.write_all(bytes).map_err(|error| {
+        if let Some(length) = length {
+            // The message is the write's; that cutting fails too would add nothing.
+            let _ = out.set_len(length);
+        }
+        words(error)
+    })
+}
+
+fn words(error: io::Error) -> String {
+    let why = match error.kind() {
+        ErrorKind::BrokenPipe => "its reader has gone".to_string(),
+        ErrorKind::StorageFull => "the disk is full".to_string(),
+        ErrorKind::QuotaExceeded => "the disk's quota is used up".to_string(),
+        _ => error.to_string(),
+    };
+    format!("gablemadder: standard output: {why}")
+}
