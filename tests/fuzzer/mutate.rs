@@ -6,10 +6,10 @@ use crate::mesh::Mesh;
 use crate::points::{self, LIMITS};
 use crate::random::Random;
 use crate::shapes::{nudge, pick};
-use crate::{change, ids, parts};
+use crate::{change, fit, ids, machining, parts, sheet_limits};
 
-/// Polygons of a part drawn anew: more would make the file slow.
-const FEW: usize = 40;
+/// Polygons of a part drawn anew, or put together from two: more would make the file slow.
+const FEW: usize = 24;
 
 type Plain = fn(&[u8], usize) -> Vec<u8>;
 
@@ -43,7 +43,7 @@ fn part(random: &mut Random, mesh: &mut Mesh) {
     if mesh.polygons.is_empty() || random.below(60) == 0 {
         return anew(random, mesh);
     }
-    match random.below(24) {
+    match random.below(28) {
         0..=4 => points::plane(random, mesh),
         5 | 6 => points::corner(random, mesh),
         7 => points::alone(random, mesh),
@@ -56,7 +56,21 @@ fn part(random: &mut Random, mesh: &mut Mesh) {
         17..=19 => job(random, &mut mesh.job),
         20 => *mesh = change::changed(random, mesh),
         21 => ids::rename(random, mesh),
+        22..=25 => fitted(random, mesh),
         _ => *mesh = parts::changed(random, mesh),
+    }
+}
+
+/// The job, radii or walls at a limit of its process, by what the Rust measures of the part.
+fn fitted(random: &mut Random, mesh: &mut Mesh) {
+    match (word(&mesh.job, 0), random.below(2)) {
+        (0, 0) => machining::fit_wall(random, mesh),
+        (0, _) => machining::fit_rounds(random, mesh),
+        (1, _) => sheet_limits::fit_rounds(random, mesh),
+        _ => {
+            let what = pick(random, &fit::ALL);
+            fit::fitted(random, mesh, what);
+        }
     }
 }
 
@@ -103,11 +117,11 @@ pub fn crossed(random: &mut Random, a: &[u8], b: &[u8]) -> Option<Vec<u8>> {
     let (mut a, b) = (readable(a)?, readable(b)?);
     match random.below(3) {
         0 => a.job = b.job,
-        1 => a.polygons.extend(b.polygons),
+        1 if a.polygons.len() + b.polygons.len() <= FEW => a.polygons.extend(b.polygons),
         _ => {
             let n = b.polygons.len();
             let from = random.below(n as u64 + 1) as usize;
-            let to = from + random.below((n - from) as u64 + 1) as usize;
+            let to = from + random.below((n - from).min(4) as u64 + 1) as usize;
             let at = random.below(a.polygons.len() as u64 + 1) as usize;
             a.polygons.splice(at..at, b.polygons[from..to].iter().cloned());
         }

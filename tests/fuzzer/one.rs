@@ -1,5 +1,6 @@
 //! One file: the answers, the buffers, and what the report has, for the fuzzer to look for more of.
 use crate::compare::Compare;
+use crate::field::{word, Blocks};
 use crate::random::Random;
 use crate::sizes::Sizes;
 use crate::which;
@@ -30,7 +31,7 @@ pub fn check(c: &mut Compare, file: &[u8]) -> Result<(), String> {
             c.call(sizes, Err(number)).map_err(|e| format!("{sizes:?}: {e}"))?;
         }
         Ok(checked) => {
-            features(&checked);
+            features(file, &checked);
             let needed = Sizes::needed(&checked);
             let enough = needed.enough(&mut random);
             which::counted();
@@ -59,8 +60,12 @@ fn size(n: usize) -> u64 {
     u64::from(usize::BITS - n.leading_zeros())
 }
 
-/// Of a report: each finding without its numbers, how many faults and faces it stands for, bends, and whether there is a thickness and a height.
-fn features(checked: &Checked) {
+/// Of a part its size, and of a report, by the process: each finding without its numbers, how many faults and faces it stands for, bends, and whether there
+/// is a thickness and a height.
+fn features(file: &[u8], checked: &Checked) {
+    let blocks = Blocks::of(file).expect("a file that can be read");
+    let process = word(file, blocks.job()).to_string();
+    seen("polygons", size(blocks.polygons));
     let (first, lines) = checked.text.split_once('\n').expect("a first line");
     let head: Vec<&str> = first.split(' ').collect();
     seen("bends", head[2].parse().unwrap_or(0));
@@ -70,7 +75,7 @@ fn features(checked: &Checked) {
         let fields: Vec<&str> = line.split('|').collect();
         let text: String = fields[4].chars().filter(|c| !c.is_ascii_digit()).collect();
         let faces = fields[3].split(',').count();
-        seen(&[fields[0], fields[1], &text].concat(), 0);
+        seen(&[&process, fields[0], fields[1], &text].concat(), 0);
         seen(fields[1], size(fields[2].parse().unwrap_or(0)));
         seen(&[fields[1], "faces"].concat(), size(faces));
     }
