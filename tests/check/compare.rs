@@ -1,6 +1,7 @@
 //! One file: the check's answer, and each lent buffer before and after, beside the oracle's report or refusal.
 use crate::gablemadder;
 use crate::lent::Lent;
+use crate::scratch::guard::{self, Guarded};
 use crate::scratch::Scratch;
 use crate::seen::Seen;
 use crate::sizes::{Sizes, REPORT, ROWS, SLICES};
@@ -20,10 +21,11 @@ pub struct Compare {
     pub calls: u64,
     /// The smallest file with a difference.
     pub smallest: Option<Vec<u8>>,
-    lent: Lent,
+    pub lent: Lent,
     report: Scratch<u8>,
-    file: Vec<u8>,
+    file: Guarded<u8>,
     at: Range<usize>,
+    written: Guarded<usize>,
 }
 
 impl Compare {
@@ -34,9 +36,10 @@ impl Compare {
             calls: 0,
             smallest: None,
             lent: Lent::new(seed),
-            report: Scratch::new(),
-            file: Vec::new(),
+            report: Scratch::named("report"),
+            file: Guarded::new("file"),
             at: 0..0,
+            written: Guarded::new("written"),
         }
     }
 
@@ -75,17 +78,23 @@ impl Compare {
         }
     }
 
-    /// At every alignment in turn, with a margin.
-    fn put(&mut self, file: &[u8]) {
-        let start = MARGIN + (self.tally.compared % 8) as usize;
-        self.file.clear();
-        self.file.resize(start, JUNK);
-        self.file.extend_from_slice(file);
-        self.at = start..self.file.len();
-        self.file.extend([JUNK; MARGIN]);
+    /// Directly before pages that can't be touched, or directly after some; now and then at every alignment in turn. Elsewhere there is a margin.
+    pub fn put(&mut self, file: &[u8]) {
+        let turn = (self.tally.compared % 32) as usize;
+        let (start, after) = match turn {
+            0..=15 => (MARGIN, 0),
+            16..=23 => (0, MARGIN),
+            _ => (MARGIN + turn % 8, MARGIN),
+        };
+        self.at = start..start + file.len();
+        self.file.lend(self.at.end + after, after == 0);
+        self.file.fill(JUNK);
+        self.file[self.at.clone()].copy_from_slice(file);
+        self.written.lend(1, turn % 4 != 3);
+        guard::checks(&self.file[self.at.clone()]);
     }
 
-    fn is_file(&self, file: &[u8]) -> Result<(), String> {
+    pub fn is_file(&self, file: &[u8]) -> Result<(), String> {
         let (start, end) = (self.at.start, self.at.end);
         let margins = [&self.file[..start], &self.file[end..]].concat();
         if self.file[start..end] == *file && margins.iter().all(|b| *b == JUNK) {
@@ -113,7 +122,7 @@ impl Compare {
         Ok(())
     }
 
-    fn with(&mut self, checked: &Checked, sizes: Sizes) -> Result<(), String> {
+    pub fn with(&mut self, checked: &Checked, sizes: Sizes) -> Result<(), String> {
         let needed = Sizes::needed(checked);
         for k in 0..SLICES.len() {
             self.seen.length(k, sizes.0[k], needed.0[k]);
@@ -122,18 +131,19 @@ impl Compare {
     }
 
     /// A call over junk, and all that it has to leave.
-    fn call(&mut self, sizes: Sizes, wanted: Result<&str, u32>) -> Result<(), String> {
+    pub fn call(&mut self, sizes: Sizes, wanted: Result<&str, u32>) -> Result<(), String> {
         let [words, reals, cells, numbers, report] = sizes.0;
         self.lent.lend((words, reals), (cells, numbers), words / 8);
         let random = &mut self.lent.random;
         let kind = random.below(4) as usize;
         self.report.lend(report, kind, 128, random);
         let before = random.next() as usize;
-        let mut written = before;
+        self.written[0] = before;
         self.calls += 1;
         let Lent { words, reals, cells, numbers, .. } = &mut self.lent;
         let file = &self.file[self.at.clone()];
-        let ours = gablemadder::check(file, words.cells(), reals.cells(), cells.cells(), numbers.cells(), self.report.cells(), &mut written);
+        let ours = gablemadder::check(file, words.cells(), reals.cells(), cells.cells(), numbers.cells(), self.report.cells(), &mut self.written[0]);
+        let written = self.written[0];
         let theirs = wanted.err().unwrap_or(0);
         self.seen.answer(theirs);
         if ours != theirs {

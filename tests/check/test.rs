@@ -101,6 +101,7 @@ mod sizes;
 use compare::Compare;
 use mesh::Mesh;
 use random::Random;
+use std::ffi::CStr;
 use std::sync::mpsc::{sync_channel, Receiver};
 use std::sync::Mutex;
 use std::thread;
@@ -113,6 +114,8 @@ const RUNS: u64 = 1_000;
 const LARGE: usize = 100_000;
 /// Where the smallest file with a difference is put.
 const DIFFERENT: &str = "target/tests/check/different";
+/// Where the file is put over which the check crashes.
+const CRASHED: &CStr = c"target/tests/check/crashed";
 
 type Generated = Mutex<Receiver<(u64, Vec<u8>)>>;
 
@@ -128,6 +131,7 @@ fn main() {
         let work = |k: u64| {
             let (corner, receiver) = (&corner[..], &receiver);
             scope.spawn(move || {
+                scratch::guard::keep_at(CRASHED);
                 let mut c = Compare::new(40 + k);
                 own(&mut c, k, threads, quick, corner);
                 from_input(&mut c, receiver);

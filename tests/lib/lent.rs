@@ -12,7 +12,8 @@ pub struct Lent {
 
 impl Lent {
     pub fn new(seed: u64) -> Lent {
-        Lent { random: Random(seed), words: Scratch::new(), reals: Scratch::new(), cells: Scratch::new(), numbers: Scratch::new() }
+        let (words, reals, cells, numbers) = (Scratch::named("words"), Scratch::named("reals"), Scratch::named("cells"), Scratch::named("numbers"));
+        Lent { random: Random(seed), words, reals, cells, numbers }
     }
 
     pub fn lend(&mut self, (words, reals): (usize, usize), (cells, numbers): (usize, usize), small: usize) {

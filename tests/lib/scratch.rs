@@ -1,6 +1,10 @@
-//! Lent cells full of garbage, with a margin to each side that no call may reach.
+//! Lent cells full of garbage, to one side of them pages that can't be touched and to the other a margin that no call may reach.
 #![allow(dead_code)]
+#[path = "../lib/guard.rs"]
+pub mod guard;
+
 use crate::random::Random;
+use guard::Guarded;
 
 const MARGIN: usize = 16;
 
@@ -40,21 +44,29 @@ impl Cell for f64 {
 }
 
 pub struct Scratch<T> {
-    cells: Vec<T>,
+    cells: Guarded<T>,
     before: Vec<T>,
+    /// Where the lent cells begin: after the margin, or without one.
+    lead: usize,
+    lent: usize,
 }
 
 impl<T: Cell> Scratch<T> {
     pub fn new() -> Scratch<T> {
-        Scratch { cells: Vec::new(), before: Vec::new() }
+        Scratch::named("scratch")
+    }
+
+    /// By the name that a crash is to say.
+    pub fn named(name: &'static str) -> Scratch<T> {
+        Scratch { cells: Guarded::new(name), before: Vec::new(), lead: 0, lent: 0 }
     }
 
     /// So many cells, filled by one of four kinds of garbage: anything, all ones, zeros, and numbers below `small`, which look like numbers of
-    /// vertices, polygons or cells.
+    /// vertices, polygons or cells. They end directly before pages that can't be touched; about every fourth time they begin directly after some.
     pub fn lend(&mut self, n: usize, kind: usize, small: usize, random: &mut Random) {
         let limit = small as u64 + 2;
-        self.cells.clear();
-        self.cells.extend((0..n + 2 * MARGIN).map(|_| {
+        self.before.clear();
+        self.before.extend((0..n + 2 * MARGIN).map(|_| {
             T::from_bits(match kind % 4 {
                 0 => random.next(),
                 1 => u64::MAX,
@@ -62,12 +74,16 @@ impl<T: Cell> Scratch<T> {
                 _ => 0,
             })
         }));
-        self.before.clone_from(&self.cells);
+        self.before.truncate(n + MARGIN);
+        // by the state of the source, of which nothing is drawn for it
+        let last = (random.0 >> 33) % 4 != 3;
+        (self.lead, self.lent) = (if last { MARGIN } else { 0 }, n);
+        self.cells.lend(n + MARGIN, last);
+        self.cells.copy_from_slice(&self.before);
     }
 
     pub fn cells(&mut self) -> &mut [T] {
-        let n = self.cells.len();
-        &mut self.cells[MARGIN..n - MARGIN]
+        &mut self.cells[self.lead..][..self.lent]
     }
 
     /// All but the last cell.
@@ -85,19 +101,19 @@ impl<T: Cell> Scratch<T> {
         self.same(0..self.cells.len())
     }
 
-    /// All past the first n of the lent cells, and both margins.
+    /// All past the first n of the lent cells, and the margin.
     pub fn is_unchanged_past(&self, n: usize) -> bool {
-        self.same(0..MARGIN) && self.same(MARGIN + n..self.cells.len())
+        self.same(0..self.lead) && self.same(self.lead + n..self.cells.len())
     }
 
-    /// All of the lent cells are zero, and both margins as they were.
+    /// All of the lent cells are zero, and the margin as it was.
     pub fn is_zero(&self) -> bool {
-        let lent = &self.cells[MARGIN..self.cells.len() - MARGIN];
+        let lent = &self.cells[self.lead..][..self.lent];
         lent.iter().all(|c| c.same(T::from_bits(0))) && self.margins_are_unchanged()
     }
 
     pub fn margins_are_unchanged(&self) -> bool {
-        self.is_unchanged_past(self.cells.len() - 2 * MARGIN)
+        self.is_unchanged_past(self.lent)
     }
 }
 
