@@ -11,7 +11,8 @@ pub const WARNING: u32 = 1;
 
 pub const NOTE: u32 = 2;
 
-// What is kept of a fault, so that its text and its faces follow from the row and the part. A row of zeros is no fault.
+// What is kept of a fault, so that its text and its faces follow from the row and the part. A row of zeros is no fault. 48 bytes, for C too.
+#[repr(C)]
 pub struct Row {
     // The rule and the message, from 1 on.
     pub kind: u32,
