@@ -11,7 +11,7 @@ use borrow.Author.Tests.{eqb-true, eqb-false}
 use Rattle.num_float.proofs.Tests.{contrary}
 use Rattle.file_part.specs.Part.{partOf}
 use Rattle.scratch.specs.Refusal.{bodyRefusal}
-use Rattle.fault_row.specs.declared.row.Row.{Row}
+use Rattle.fault_row.specs.declared.row.FaultRow.{FaultRow}
 use Rattle.fault_lines.specs.Line.{Line}
 use Rattle.fault_lines.specs.Lines.{linesOf}
 use Rattle.fault_lines.proofs.Unique.{determined}
@@ -64,7 +64,7 @@ answer-by : (s : List ℕ) (words reals rows room : ℕ) → answerOf s words re
 unfolding answerOf answerBy
 answer-by s words reals rows room = refl
 
-module _ {s words words′ : List ℕ} {reals reals′ : List Float} {rows rows′ : List Row} {report report′ : List ℕ} {r : Answer}
+module _ {s words words′ : List ℕ} {reals reals′ : List Float} {rows rows′ : List FaultRow} {report report′ : List ℕ} {r : Answer}
     (o : Outcome s words words′ reals reals′ rows rows′ report report′ r) where
   -- the answer by its tests
   is : r ≡ answerBy (eqb (bodyRefusal s (length words) (length reals)) 0) (leb (length (faultsOf (partOf s))) (min 2048 (length rows)))
@@ -95,7 +95,7 @@ module _ {s words words′ : List ℕ} {reals reals′ : List Float} {rows rows�
   report-length ok = ap lengthOf is ∙ by-length _ _ _ _ _ (ap isAccepted (sym is) ∙ ok)
 
 -- ---- the outcome: the only one of a call
-module _ {s words words1 words2 : List ℕ} {reals reals1 reals2 : List Float} {rows rows1 rows2 : List Row}
+module _ {s words words1 words2 : List ℕ} {reals reals1 reals2 : List Float} {rows rows1 rows2 : List FaultRow}
     {report report1 report2 : List ℕ} {r1 r2 : Answer} (a : Outcome s words words1 reals reals1 rows rows1 report report1 r1)
     (b : Outcome s words words2 reals reals2 rows rows2 report report2 r2) where
   one-answer : r1 ≡ r2

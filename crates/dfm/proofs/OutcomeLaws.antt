@@ -9,7 +9,7 @@ use lib.Ieee.{Float}
 use Rattle.math.specs.Vector.{zero}
 use Rattle.file_part.specs.Part.{partOf}
 use Rattle.scratch.specs.Refusal.{bodyRefusal}
-use Rattle.fault_row.specs.declared.row.Row.{Row}
+use Rattle.fault_row.specs.declared.row.FaultRow.{FaultRow}
 use Rattle.fault_row.specs.Row.{rowAt, rowRoom}
 use Rattle.fault_rows.specs.Rows.{zeroRow, rowIn, painted, wiped, Taken}
 use Rattle.fault_rows.proofs.RowsLaws.{painted-none, painted-length, painted-at, wiped-none, wiped-all}
@@ -36,18 +36,18 @@ pub faults-fit : (n m lent lent′ cells cells′ numbers numbers′ : ℕ) → 
 faults-fit n m lent lent′ cells cells′ numbers numbers′ e h el ec en = (omega (arith, e, h, el), rw (ec, en) (omega (arith, e, h)))
 
 -- rows that were put and taken back are those that were found, and the report starts from them
-pub ready-taken : (s words : List ℕ) (cells cells′ : List ℕ) (numbers numbers′ : List Float) (rows rows1 : List Row) (f : Findings) (n : ℕ) → n ≡ f .faults → n ≤ length rows →
+pub ready-taken : (s words : List ℕ) (cells cells′ : List ℕ) (numbers numbers′ : List Float) (rows rows1 : List FaultRow) (f : Findings) (n : ℕ) → n ≡ f .faults → n ≤ length rows →
     rows1 ≡ painted (rowAt cells numbers) n rows → Taken rows1 n cells cells′ numbers numbers′ → Ready s words cells numbers f → Ready s words cells′ numbers′ f
 ready-taken s words cells cells′ numbers numbers′ rows rows1 f n e fits put taken ready =
     ready-same s words cells cells′ numbers numbers′ f (taken .cells-kept .long) (taken .numbers-kept .long)
     (λ k low.
     let below : k < n = omega (arith, low, e) in
-    taken .each k below ∙ ap (λ (l : List Row). rowIn l k) put ∙ painted-at (rowAt cells numbers) n rows k zeroRow fits below)
+    taken .each k below ∙ ap (λ (l : List FaultRow). rowIn l k) put ∙ painted-at (rowAt cells numbers) n rows k zeroRow fits below)
     ready
 
 -- ---- the steps of a check
 pub record Steps (s words words1 words′ : List ℕ) (reals reals1 reals′ : List Float) (cells cells1 : List ℕ) (numbers numbers1 : List Float)
-    (rows rows1 rows′ : List Row) (report report′ : List ℕ) (f : Findings) (r : Answer) : Type 0 where
+    (rows rows1 rows′ : List FaultRow) (report report′ : List ℕ) (f : Findings) (r : Answer) : Type 0 where
   pub finding : Finding s words words1 reals reals1 cells cells1 numbers numbers1 (length rows) f
   pub room : rowRoom (length cells) (length numbers) ≡ 2048
   pub words-long : length words1 ≡ length words
@@ -57,7 +57,7 @@ pub record Steps (s words words1 words′ : List ℕ) (reals reals1 reals′ : L
   pub wipes : rows′ ≡ wiped (wipeFrom r (length rows)) rows1
 
 module _ (s words words1 words′ : List ℕ) (reals reals1 reals′ : List Float) (cells cells1 : List ℕ) (numbers numbers1 : List Float)
-    (rows rows1 rows′ : List Row) (report report′ : List ℕ) (f : Findings) (r : Answer)
+    (rows rows1 rows′ : List FaultRow) (report report′ : List ℕ) (f : Findings) (r : Answer)
     (h : Steps s words words1 words′ reals reals1 reals′ cells cells1 numbers numbers1 rows rows1 rows′ report report′ f r) where
   abbrev q : ℕ
   q = bodyRefusal s (length words) (length reals)

@@ -8,7 +8,7 @@ use lib.Ieee.{Float}
 use Rattle.math.specs.Vector.{zero}
 use Rattle.file_part.specs.Part.{Part, partOf}
 use Rattle.scratch.specs.Refusal.{bodyRefusal}
-use Rattle.fault_row.specs.declared.row.Row.{Row}
+use Rattle.fault_row.specs.declared.row.FaultRow.{FaultRow}
 use Rattle.fault_rows.specs.Rows.{zeroRow}
 use Rattle.fault_lines.specs.Line.{Line}
 use Rattle.fault_lines.specs.Listed.{Listed}
@@ -19,13 +19,13 @@ use Rattle.dfm_core.specs.Answer.{isAccepted, answerOf}
 
 -- ---- the buffers
 -- "1 to 10 .. change no buffer"
-pub record Untouched (words words′ : List ℕ) (reals reals′ : List Float) (rows rows′ : List Row) : Type 0 where
+pub record Untouched (words words′ : List ℕ) (reals reals′ : List Float) (rows rows′ : List FaultRow) : Type 0 where
   pub words-same : words′ ≡ words
   pub reals-same : reals′ ≡ reals
   pub rows-same : rows′ ≡ rows
 
 -- "11, 12 and an accepted check leave scratch and rows all zero"
-pub record Cleared (words words′ : List ℕ) (reals reals′ : List Float) (rows rows′ : List Row) : Type 0 where
+pub record Cleared (words words′ : List ℕ) (reals reals′ : List Float) (rows rows′ : List FaultRow) : Type 0 where
   pub words-zero : words′ ≡ replicate (length words) 0
   pub reals-zero : reals′ ≡ replicate (length reals) zero
   pub rows-zero : rows′ ≡ replicate (length rows) zeroRow
@@ -39,7 +39,7 @@ pub record Printed (t : Part) (report report′ : List ℕ) : Type 0 where
 
 -- ---- the outcome of a call
 -- 11: "more faults than fault rows lent, or over 2,048"
-pub record Outcome (s words words′ : List ℕ) (reals reals′ : List Float) (rows rows′ : List Row) (report report′ : List ℕ) (r : Answer) : Type 0 where
+pub record Outcome (s words words′ : List ℕ) (reals reals′ : List Float) (rows rows′ : List FaultRow) (report report′ : List ℕ) (r : Answer) : Type 0 where
   pub answer : r ≡ answerOf s (length words) (length reals) (min 2048 (length rows)) (length report)
   pub untouched : (bodyRefusal s (length words) (length reals) ≡ 0 → ⊥) → Untouched words words′ reals reals′ rows rows′
   pub cleared : bodyRefusal s (length words) (length reals) ≡ 0 → Cleared words words′ reals reals′ rows rows′

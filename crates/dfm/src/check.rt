@@ -5,7 +5,7 @@ use dfm_core::answer::wipe_from;
 use dfm_core::halves::fault_count;
 use dfm_core::halves::find_faults;
 use dfm_core::halves::finish;
-use fault_row::row::Row;
+use fault_row::row::FaultRow;
 use fault_rows::put_rows;
 use fault_rows::take_rows;
 use fault_rows::wipe_rows;
@@ -16,7 +16,7 @@ pub fn check(
     file: &[u8],
     words: &mut [u32],
     reals: &mut [f64],
-    rows: &mut [Row],
+    rows: &mut [FaultRow],
     report: &mut [u8],
 ) -> Answer
     ensures { λ r. ⌜ Outcome (now (file .entry)) (now (words .entry)) (now (words .exit)) (now (reals .entry)) (now (reals .exit)) (now (rows .entry)) (now (rows .exit)) (now (report .entry)) (now (report .exit)) r ⌝ }

@@ -18,7 +18,7 @@ use Rattle.scratch.specs.Regions.{regionsOf}
 use Rattle.scratch.specs.Refusal.{bodyRefusal}
 use Rattle.scratch.specs.Standing.{Placed}
 use Rattle.scratch.proofs.RegionLaws.{only-regions}
-use Rattle.fault_row.specs.declared.row.Row.{Row}
+use Rattle.fault_row.specs.declared.row.FaultRow.{FaultRow}
 use Rattle.fault_row.specs.declared.summary.Summary.{Summary}
 use Rattle.fault_row.specs.declared.summary.Found.{Found}
 use Rattle.fault_row.specs.Fault.{Fault}
@@ -146,7 +146,7 @@ faults-same : (t : Part) (cells cells′ : List ℕ) (numbers numbers′ : List 
 unfolding faultsTo
 faults-same t cells cells′ numbers numbers′ zero same = refl
 faults-same t cells cells′ numbers numbers′ (suc n) same =
-    ap₂ (λ (fs : List Fault) (row : Row). fs ++ (faultOf t row ∷ [])) (faults-same t cells cells′ numbers numbers′ n (λ k low. same k (omega (arith, low)))) (same n (omega arith))
+    ap₂ (λ (fs : List Fault) (row : FaultRow). fs ++ (faultOf t row ∷ [])) (faults-same t cells cells′ numbers numbers′ n (λ k low. same k (omega (arith, low)))) (same n (omega arith))
 
 pub ready-same : (s words cells cells′ : List ℕ) (numbers numbers′ : List Float) (r : Findings) → length cells′ ≡ length cells → length numbers′ ≡ length numbers →
     ((k : ℕ) → k < r .faults → rowAt cells′ numbers′ k ≡ rowAt cells numbers k) → Ready s words cells numbers r → Ready s words cells′ numbers′ r

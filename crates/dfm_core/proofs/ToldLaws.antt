@@ -25,7 +25,7 @@ use Rattle.print_overhang.specs.Overhang.{leanOf, overhangCount}
 use Rattle.print_overhang.specs.Kept.{Marks}
 use Rattle.fault_row.specs.declared.fault.Rule.{Rule}
 use Rattle.fault_row.specs.declared.fault.Rule.the-variants.{DeepHole, DeepInsideCorner, EnclosedHollow, FewLayers, HoleTooClose, Material, NoMaterial, NotClosed, NotOneThickness, Overhang, SharpInsideCorner, ShortFlange, SmallHole, ThinWall, ThinnerThanALayer, ThinnerThanTheNozzle, TightBend, TightInsideRadius}
-use Rattle.fault_row.specs.declared.row.Row.{Row}
+use Rattle.fault_row.specs.declared.row.FaultRow.{FaultRow}
 use Rattle.fault_row.specs.declared.summary.Found.{Found}
 use Rattle.fault_row.specs.Fault.{Fault, none}
 use Rattle.fault_row.specs.Row.{rowAt, rowRoom}
@@ -266,11 +266,11 @@ module _ (t : Part) (at : Regions) (words : List ℕ) where
   abbrev Stands : Rule → Type 0
   Stands rule = Asks (OffFaces t at words) (Marks t (leanOf t) at words) (at .bodies ≡ true) rule
 
-  of-kind : (row : Row) {kind : ℕ} → Stands (ruleOf (row .kind)) → row .kind ≡ kind → Stands (ruleOf kind)
+  of-kind : (row : FaultRow) {kind : ℕ} → Stands (ruleOf (row .kind)) → row .kind ≡ kind → Stands (ruleOf kind)
   of-kind row stands e = subst (λ (kind : ℕ). Stands (ruleOf kind)) e stands
 
   -- a row's kind gives the rule of its fault
-  row-told : (row : Row) → Stands (faultOf t row .heading .rule) → Told t at words row
+  row-told : (row : FaultRow) → Stands (faultOf t row .heading .rule) → Told t at words row
   unfolding faultOf ruleOf sheetRule printingRule
   row-told row stands = record { off = of-kind row stands; over = of-kind row stands; hollow = hollow }
     where

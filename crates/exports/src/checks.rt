@@ -5,7 +5,7 @@ ghost use Rattle.dfm_core.specs.Answer.{numberOf, lengthOf, isAccepted};
 ghost use Rattle.exports.specs.Check.{Checks};
 use dfm::check::check;
 use dfm_core::answer::Answer;
-use fault_row::row::Row;
+use fault_row::row::FaultRow;
 
 // The number of the refusal, 0 for none; how many bytes the report has goes into `written`, where there is one.
 fn tell(answer: Answer, written: &mut usize) -> u32
@@ -27,7 +27,7 @@ pub extern "C" fn gablemadder_check(
     file: &[u8],
     words: &mut [u32],
     reals: &mut [f64],
-    rows: &mut [Row],
+    rows: &mut [FaultRow],
     report: &mut [u8],
     written: &mut usize,
 ) -> u32

@@ -14,7 +14,7 @@ use lib.Ieee.{Float, nan}
 use borrow.Author.Tests.{lt-ltb, le-ltb}
 use Rattle.num_float.proofs.Tests.{lt-or-ge}
 use Rattle.list_laws.proofs.Outside.{outside-none, outside-then, outside-wide}
-use Rattle.fault_row.specs.declared.row.Row.{Row}
+use Rattle.fault_row.specs.declared.row.FaultRow.{FaultRow}
 use Rattle.fault_row.specs.Row.{rowAt, rowRoom, RowPut}
 use Rattle.fault_row.proofs.RowLaws.{row-kept}
 use Rattle.fault_rows.specs.Rows.{zeroRow, rowIn, painted, wiped, Taken}
@@ -50,9 +50,9 @@ painted-own g (suc n) l d same =
     ap (λ m. set m n (g n)) (painted-own g n l d (λ k low. same k (omega (arith, low)))) ∙ ap (set l n) (same n (omega arith)) ∙ set-getD l n d
 
 -- ---- rows of which those from number a on are zeroed
-module _ (a : ℕ) (rows : List Row) where
+module _ (a : ℕ) (rows : List FaultRow) where
   -- row k then
-  abbrev left : ℕ → Row
+  abbrev left : ℕ → FaultRow
   left k = cond (ltb k a) (rowIn rows k) zeroRow
 
   pub wiped-own : painted (λ (k : ℕ). cond (ltb k a) (rowIn rows k) zeroRow) a rows ≡ rows
@@ -67,7 +67,7 @@ module _ (a : ℕ) (rows : List Row) where
       ext-getD zeroRow (painted left (length rows) rows) whole (long ∙ sym whole-long)
       (λ k h. painted-at left (length rows) rows k zeroRow (omega arith) (omega (arith, h, long)) ∙ go k (omega (arith, h, long)) (lt-or-ge k a))
     where
-      whole : List Row
+      whole : List FaultRow
       whole = take a rows ++ replicate (length rows - a) zeroRow
 
       long : length (painted left (length rows) rows) ≡ length rows
@@ -92,23 +92,23 @@ module _ (a : ℕ) (rows : List Row) where
           ∙ sym (getD-replicate (length rows - a) (k - a) zeroRow zeroRow (omega (arith, h, above)))
           ∙ sym (getD-append-add (take a rows) (replicate (length rows - a) zeroRow) (k - a) zeroRow) ∙ ap (λ (j : ℕ). getD whole j zeroRow) at
 
-pub wiped-none : (rows : List Row) → wiped (length rows) rows ≡ rows
+pub wiped-none : (rows : List FaultRow) → wiped (length rows) rows ≡ rows
 unfolding wiped
 wiped-none rows =
     let over : length rows - length rows ≡ 0 = omega arith in
-    ap (λ (l : List Row). l ++ replicate (length rows - length rows) zeroRow) (take-length rows)
+    ap (λ (l : List FaultRow). l ++ replicate (length rows - length rows) zeroRow) (take-length rows)
     ∙ ap (λ (k : ℕ). rows ++ replicate k zeroRow) over ∙ append-nil rows
 
-pub wiped-all : (rows : List Row) → wiped 0 rows ≡ replicate (length rows) zeroRow
+pub wiped-all : (rows : List FaultRow) → wiped 0 rows ≡ replicate (length rows) zeroRow
 unfolding wiped
 wiped-all rows = let all : length rows - 0 ≡ length rows = omega arith in ap (λ (k : ℕ). replicate k zeroRow) all
 
 -- ---- rows taken, one after another
-pub taken-none : (rows : List Row) (cells : List ℕ) (numbers : List Float) → Taken rows 0 cells cells numbers numbers
+pub taken-none : (rows : List FaultRow) (cells : List ℕ) (numbers : List Float) → Taken rows 0 cells cells numbers numbers
 taken-none rows cells numbers =
     record { each = λ k low. absurd (omega (arith, low)); cells-kept = outside-none 0 0 (6 * 0) cells; numbers-kept = outside-none nan 0 (3 * 0) numbers }
 
-pub taken-one : (rows : List Row) (i r : ℕ) (cells cells1 cells2 : List ℕ) (numbers numbers1 numbers2 : List Float) → Taken rows i cells cells1 numbers numbers1 →
+pub taken-one : (rows : List FaultRow) (i r : ℕ) (cells cells1 cells2 : List ℕ) (numbers numbers1 numbers2 : List Float) → Taken rows i cells cells1 numbers numbers1 →
     i < rowRoom (length cells) (length numbers) → RowPut i (rowIn rows i) cells1 cells2 numbers1 numbers2 r → Taken rows (i + 1) cells cells2 numbers numbers2
 taken-one rows i r cells cells1 cells2 numbers numbers1 numbers2 t room put =
     record {

@@ -5,12 +5,12 @@ ghost use Prim.Native.Nat.{_≤_};
 ghost use lib.ListN.{length};
 ghost use Rattle.fault_row.specs.Row.{rowAt, rowRoom};
 ghost use Rattle.fault_rows.specs.Rows.{zeroRow, painted, wiped, Taken};
-use fault_row::row::Row;
+use fault_row::row::FaultRow;
 use fault_row::row::put_row;
 use fault_row::row::row_at;
 
 // The first n rows are those of the cells and numbers.
-pub fn put_rows(rows: &mut [Row], cells: &[u32], numbers: &[f64], n: usize)
+pub fn put_rows(rows: &mut [FaultRow], cells: &[u32], numbers: &[f64], n: usize)
     requires { ⌜ (n ≤ length (now rows)) × (n ≤ rowRoom (length (now cells)) (length (now numbers))) ⌝ }
     ensures { λ _. ⌜ now (rows .exit) ≡ painted (rowAt (now (cells .entry)) (now (numbers .entry))) n (now (rows .entry)) ⌝ }
 {
@@ -22,7 +22,7 @@ pub fn put_rows(rows: &mut [Row], cells: &[u32], numbers: &[f64], n: usize)
 }
 
 // The first n rows, as cells and numbers.
-pub fn take_rows(rows: &[Row], cells: &mut [u32], numbers: &mut [f64], n: usize)
+pub fn take_rows(rows: &[FaultRow], cells: &mut [u32], numbers: &mut [f64], n: usize)
     requires { ⌜ (n ≤ length (now rows)) × (n ≤ rowRoom (length (now cells)) (length (now numbers))) ⌝ }
     ensures { λ _. ⌜ Taken (now (rows .entry)) n (now (cells .entry)) (now (cells .exit)) (now (numbers .entry)) (now (numbers .exit)) ⌝ }
 {
@@ -34,11 +34,11 @@ pub fn take_rows(rows: &[Row], cells: &mut [u32], numbers: &mut [f64], n: usize)
 }
 
 // The rows from number `from` on are no faults.
-pub fn wipe_rows(rows: &mut [Row], from: usize)
+pub fn wipe_rows(rows: &mut [FaultRow], from: usize)
     requires { ⌜ from ≤ length (now rows) ⌝ }
     ensures { λ _. ⌜ now (rows .exit) ≡ wiped from (now (rows .entry)) ⌝ }
 {
-    let none = Row {
+    let none = FaultRow {
         kind: 0,
         severity: 0,
         count: 0,
@@ -57,10 +57,10 @@ pub fn wipe_rows(rows: &mut [Row], from: usize)
 }
 
 // No fault.
-pub fn zero_row() -> Row
+pub fn zero_row() -> FaultRow
     ensures { λ r. ⌜ r ≡ zeroRow ⌝ }
 {
-    Row {
+    FaultRow {
         kind: 0,
         severity: 0,
         count: 0,

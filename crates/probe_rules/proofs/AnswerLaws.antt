@@ -18,7 +18,7 @@ use Rattle.solid_faces.specs.Faces.{bodyVerdict}
 use Rattle.scratch.specs.declared.regions.Regions.{Regions}
 use Rattle.scratch.specs.Refusal.{bodyRefusal}
 use Rattle.scratch.specs.Standing.{Placed}
-use Rattle.fault_row.specs.declared.row.Row.{Row}
+use Rattle.fault_row.specs.declared.row.FaultRow.{FaultRow}
 use Rattle.fault_row.specs.Row.{rowAt}
 use Rattle.fault_text.specs.Meaning.{textOf}
 use Rattle.rule_machining.specs.All.{MachiningPut}
@@ -69,10 +69,10 @@ module _ (s cells : List ℕ) (numbers : List Float) where
   no-part out x q ex eq other =
       not-asked out (and-false-right (leb 6 (length cells)) _ (and-false-right (leb 3 (length numbers)) _ (ne-eqb (number (bodyVerdict s)) 0 (λ z. other (eq ∙ ap number ex ∙ z)))))
 
-  pub message-written : (out out′ : List ℕ) (x : Verdict) (q r : ℕ) (row : Row) → 6 ≤ length cells → 3 ≤ length numbers → x ≡ bodyVerdict s → q ≡ number x → q ≡ 0 →
+  pub message-written : (out out′ : List ℕ) (x : Verdict) (q r : ℕ) (row : FaultRow) → 6 ≤ length cells → 3 ≤ length numbers → x ≡ bodyVerdict s → q ≡ number x → q ≡ 0 →
       row ≡ rowAt cells numbers 0 → Put out 0 (textOf (partOf s) row) out′ r → MessageAnswer s cells numbers out out′ r
   unfolding asked
   message-written out out′ x q r row lc ln ex eq z er put =
       let yes : asked s (length cells) (length numbers) ≡ true
       = and-true (leb 6 (length cells)) _ (le-leb 6 (length cells) lc) (and-true (leb 3 (length numbers)) _ (le-leb 3 (length numbers) ln) (eq-eqb (number (bodyVerdict s)) 0 (sym (eq ∙ ap number ex) ∙ z))) in
-      record { written = λ _. subst (λ (w : Row). Put out 0 (textOf (partOf s) w) out′ r) er put; length-none = λ f. absurd (contrary yes f); same = λ f. absurd (contrary yes f) }
+      record { written = λ _. subst (λ (w : FaultRow). Put out 0 (textOf (partOf s) w) out′ r) er put; length-none = λ f. absurd (contrary yes f); same = λ f. absurd (contrary yes f) }

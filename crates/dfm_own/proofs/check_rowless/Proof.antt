@@ -41,15 +41,15 @@ use denote.Triple.Spec.{Meets, tripleOf}
 use denote.Triple.Statement.{Contract, Triple}
 use denote.Triple.Table.{entered, cited}
 use denote.Triple.Walked.{says, Stays, stay-slice, stay-none-slice, walkOf, Walks, ends-at, walked, goes-slice, goes-none-slice, walk-meets}
-use Rattle.fault_row.specs.declared.row.Row.{Row}
+use Rattle.fault_row.specs.declared.row.FaultRow.{FaultRow}
 use Rattle.dfm_core.specs.declared.answer.Answer.{Answer}
 use Rattle.fault_rows.specs.Rows.{zeroRow}
 use Rattle.dfm.specs.Check.{Outcome}
 use Rattle.dfm_own.specs.Own.{OwnOutcome}
 use Rattle.fault_rows.proofs.Lent as L
 use Rattle.fault_rows.proofs.Local as Loc
-use Rattle.fault_row.proofs.row.Row as T
-use Rattle.fault_row.proofs.row.Row.Laws as T′
+use Rattle.fault_row.proofs.row.FaultRow as T
+use Rattle.fault_row.proofs.row.FaultRow.Laws as T′
 use Rattle.dfm_core.proofs.answer.Answer as E
 use Rattle.dfm_core.proofs.answer.Answer.Laws as E′
 use Rattle.fault_rows.proofs.zero_row as zero-row
@@ -97,12 +97,12 @@ module _ {M : Type 1} (𝓤 : URA M) (H : Heap 𝓤) (A : Atoms 𝓤) (W : Given
       asked : ent 𝓤 (onEntry 𝓤 H A zero-row.signature (to-zero-row .0 .0) (to-zero-row .0 .1) (to-zero-row .0 .3) (to-zero-row .0 .4)) (Of-zero-row 𝓤 H A mem run .pre to-zero-row)
       asked = qed W (raw (onEntry 𝓤 H A zero-row.signature (to-zero-row .0 .0) (to-zero-row .0 .1) (to-zero-row .0 .3) (to-zero-row .0 .4)) ∷ []) ∵ frame ! $ done !
 
-  abbrev Gave-zero-row : Val → (Row × Unit {0}) → SProp 𝓤
+  abbrev Gave-zero-row : Val → (FaultRow × Unit {0}) → SProp 𝓤
   Gave-zero-row w x = guard 𝓤 (((x .0) ≡ zeroRow)) (sem 𝓤 H A (R .own (x .0) (w ∷ [])))
 
   zero-row-gives : (w : Val) → ent 𝓤 (Of-zero-row 𝓤 H A mem run .post to-zero-row w) (H .⇛ (ex 𝓤 (Gave-zero-row w)))
   zero-row-gives w = qed W (raw (Of-zero-row 𝓤 H A mem run .post to-zero-row w) ∷ []) ∵ updating ! $
-      use1 W (later (some (λ (r : Row). ((‵ ftrue) ⊛ ‵ (R .own r (w ∷ []))) ⊛ raw (ensured 𝓤 H A zero-row.ended (zero-row.clauses 𝓤 H A mem run) (to-zero-row .0 .0) (to-zero-row .0 .3) tt r)))) (id⊢ 𝓤 _) $ await ! tt $ pick ! (λ r. split ! $ move ! (1 ∷ []) $ use1 W (some (λ (ws : Lasts zero-row.ended (to-zero-row .0 .0) (to-zero-row .0 .3)). ‵ (lasts zero-row.ended (to-zero-row .0 .0) (to-zero-row .0 .3) ws) ⊛ raw (fact 𝓤 (r ≡ zeroRow)))) (id⊢ 𝓤 _) $ pick ! (λ ws. split ! $ move ! (1 ∷ []) $ heard ! (r ≡ zeroRow) (λ e. drop ! $
+      use1 W (later (some (λ (r : FaultRow). ((‵ ftrue) ⊛ ‵ (R .own r (w ∷ []))) ⊛ raw (ensured 𝓤 H A zero-row.ended (zero-row.clauses 𝓤 H A mem run) (to-zero-row .0 .0) (to-zero-row .0 .3) tt r)))) (id⊢ 𝓤 _) $ await ! tt $ pick ! (λ r. split ! $ move ! (1 ∷ []) $ use1 W (some (λ (ws : Lasts zero-row.ended (to-zero-row .0 .0) (to-zero-row .0 .3)). ‵ (lasts zero-row.ended (to-zero-row .0 .0) (to-zero-row .0 .3) ws) ⊛ raw (fact 𝓤 (r ≡ zeroRow)))) (id⊢ 𝓤 _) $ pick ! (λ ws. split ! $ move ! (1 ∷ []) $ heard ! (r ≡ zeroRow) (λ e. drop ! $
       split ! $ drop ! $
       at-once ! $ show ! (Gave-zero-row w) (r, tt) $ holds ! e $ done !)))
 
@@ -169,23 +169,23 @@ module _ {M : Type 1} (𝓤 : URA M) (H : Heap 𝓤) (A : Atoms 𝓤) (W : Given
   abbrev v-rows : Val
   v-rows = sliceVal (b-rows, o-rows) m-rows
 
-  abbrev at-rows : GName → List Row → RefT (List Row)
+  abbrev at-rows : GName → List FaultRow → RefT (List FaultRow)
   at-rows γ l = record { ptr = (b-rows, o-rows); name = γ; now = l }
 
-  abbrev Had-rows : List Row → Fml
+  abbrev Had-rows : List FaultRow → Fml
   Had-rows l = L.Slot R κ-rows q-rows γ-rows b-rows o-rows (v-rows ∷ []) l
 
-  abbrev Out-rows : Loan → List Row → Fml
+  abbrev Out-rows : Loan → List FaultRow → Fml
   Out-rows s l = L.Out R κ-rows q-rows γ-rows b-rows o-rows (v-rows ∷ []) (s .0) (s .1) l
 
-  abbrev Shr-rows : Loan → List Row → Fml
+  abbrev Shr-rows : Loan → List FaultRow → Fml
   Shr-rows s l = L.Shared R κ-rows q-rows γ-rows b-rows o-rows (v-rows ∷ []) (s .0) l
 
-  abbrev All : List ℕ → List Float → List ℕ → List Row → Fml
+  abbrev All : List ℕ → List Float → List ℕ → List FaultRow → Fml
   All l-words l-reals l-report l-rows = (fsep Had-file (fsep (Had-words l-words) (fsep (Had-reals l-reals) (fsep (Had-report l-report) (Had-rows l-rows)))))
 
   -- ---- check
-  module _ (l-words : List ℕ) (l-reals : List Float) (l-report : List ℕ) (l-rows : List Row) where
+  module _ (l-words : List ℕ) (l-reals : List Float) (l-report : List ℕ) (l-rows : List FaultRow) where
     abbrev to-check : Loan × (Loan × (Loan × (Loan))) → Of-check 𝓤 H A mem run .Ghost
     to-check s = (((κ-file, (s .0 .0 ∷ [], (s .1 .0 .0 ∷ [], (s .1 .1 .0 .0 ∷ [], (s .1 .1 .1 .0 ∷ [], tt))))), (q-file, (fullShare, (fullShare, (fullShare, (fullShare, tt))))), tt, (file, (at-words (s .0 .1) l-words, (at-reals (s .1 .0 .1) l-reals, (at-rows (s .1 .1 .0 .1) l-rows, (at-report (s .1 .1 .1 .1) l-report, tt))))), (v-file ∷ [], (v-words ∷ [], (v-reals ∷ [], (v-rows ∷ [], (v-report ∷ [], tt)))))), tt)
 
@@ -205,7 +205,7 @@ module _ {M : Type 1} (𝓤 : URA M) (H : Heap 𝓤) (A : Atoms 𝓤) (W : Given
         asked : (s : Loan × (Loan × (Loan × (Loan)))) → ent 𝓤 (onEntry 𝓤 H A check.signature ((to-check s) .0 .0) ((to-check s) .0 .1) ((to-check s) .0 .3) ((to-check s) .0 .4)) (Of-check 𝓤 H A mem run .pre (to-check s))
         asked s = qed W (raw (onEntry 𝓤 H A check.signature ((to-check s) .0 .0) ((to-check s) .0 .1) ((to-check s) .0 .3) ((to-check s) .0 .4)) ∷ []) ∵ frame ! $ done !
 
-    abbrev Gave-check : Val → (Answer × (List ℕ × (List Float × (List Row × (List ℕ × Unit {0}))))) → SProp 𝓤
+    abbrev Gave-check : Val → (Answer × (List ℕ × (List Float × (List FaultRow × (List ℕ × Unit {0}))))) → SProp 𝓤
     Gave-check w x = guard 𝓤 ((Outcome (file .now) l-words (x .1 .0) l-reals (x .1 .1 .0) l-rows (x .1 .1 .1 .0) l-report (x .1 .1 .1 .1 .0) (x .0)) × (length (x .1 .0) ≡ length l-words) × (length (x .1 .1 .0) ≡ length l-reals) × (length (x .1 .1 .1 .0) ≡ length l-rows) × (length (x .1 .1 .1 .1 .0) ≡ length l-report)) (sep 𝓤 (sem 𝓤 H A (E.the-row .own (x .0) (w ∷ []))) (sem 𝓤 H A (All (x .1 .0) (x .1 .1 .0) (x .1 .1 .1 .1 .0) (x .1 .1 .1 .0))))
 
     check-gives : (s : Loan × (Loan × (Loan × (Loan)))) (w : Val) → ent 𝓤 (sep 𝓤 (Of-check 𝓤 H A mem run .post (to-check s) w) (sem 𝓤 H A (Kept-check s))) (H .⇛ (ex 𝓤 (Gave-check w)))
@@ -272,7 +272,7 @@ module _ {M : Type 1} (𝓤 : URA M) (H : Heap 𝓤) (A : Atoms 𝓤) (W : Given
         -- zero_row
         use0 W (raw (Of-zero-row 𝓤 H A mem run .pre (to-zero-row 𝓤 H A W mem run))) (zero-row-asks 𝓤 H A W mem run) $
         calls-at ! fm (Of-zero-row 𝓤 H A mem run) known-zero-row (to-zero-row 𝓤 H A W mem run) (no-more !) (λ w1.
-        use1 W (later (some (λ (x : (Row × Unit {0})). given (((x .0) ≡ zeroRow)) (‵ (R .own (x .0) (w1 ∷ [])))))) (zero-row-gives 𝓤 H A W mem run w1) $ await ! tt $ pick ! (λ x1. learn ! (λ f1.
+        use1 W (later (some (λ (x : (FaultRow × Unit {0})). given (((x .0) ≡ zeroRow)) (‵ (R .own (x .0) (w1 ∷ [])))))) (zero-row-gives 𝓤 H A W mem run w1) $ await ! tt $ pick ! (λ x1. learn ! (λ f1.
         peeks ! R (Is R) (shows 𝓤 H A R) (x1 .0) (w1 ∷ []) (λ is1. land ! (from ! (stop !)) (init ! 18 refl (LL.lawful T.the-type T′.the-laws 𝓤 H A W .typed (x1 .0) (w1 ∷ []) is1 .0)) $ drop ! $
         owned ! R (Is R) (LL.makes T.the-type T′.the-plain 𝓤 H A) (x1 .0) (w1 ∷ []) is1 $ use1 W (‵ (Array R 0 .own (replicate 0 (x1 .0)) (arrayVal (replicate 0 w1) ∷ []))) (array-repeat 𝓤 H A W R (LL.copy T.the-type T′.the-copy 𝓤 H A W) 0 (x1 .0) w1) $ peeks ! (Array R 0) (Is (Array R 0)) (shows 𝓤 H A (Array R 0)) (replicate 0 (x1 .0)) (arrayVal (replicate 0 w1) ∷ []) (λ all-rows. assigns ! (agg ! (no-more !)) (from ! (stop !)) (init ! 20 refl (array-lawful 𝓤 H A W R (LL.lawful T.the-type T′.the-laws 𝓤 H A W) 0 .typed (replicate 0 (x1 .0)) _ all-rows .0)) $
         move ! (20 ∷ 0 ∷ []) $ use2 W (later (some (λ (s : Loan). (‵ (flft (s .0 ∷ []) fullShare) ⊛ ‵ (MutSlice (named 0) (s .0 ∷ []) R .own (record { ptr = (l5, 0); name = s .1; now = (replicate 0 (x1 .0)) }) (sliceVal (l5, 0) (length (replicate 0 (x1 .0))) ∷ []))) ⊛ ‵ (flent (s .0 ∷ []) (Held R (length (replicate 0 (x1 .0))) l5 0 (s .1)))))) (Loc.lends-array R tt 𝓤 H A W 0 l5 (named 0) (replicate 0 (x1 .0)) (arrayVal (replicate 0 w1)) (subst (Room R) (sym (length-replicate 0 (x1 .0))) (lit< tt, lit< tt))) $ await ! tt $ pick ! (λ s-rows. split ! $ split ! $ move ! (1 ∷ 0 ∷ []) $ rewrite ! 0 (λ (m : ℕ). ‵ (MutSlice (named 0) (s-rows .0 ∷ []) R .own (record { ptr = (l5, 0); name = s-rows .1; now = (replicate 0 (x1 .0)) }) (sliceVal (l5, 0) m ∷ []))) (length-replicate 0 (x1 .0)) refl $ fjoin ! $
@@ -280,12 +280,12 @@ module _ {M : Type 1} (𝓤 : URA M) (H : Heap 𝓤) (A : Atoms 𝓤) (W : Given
         -- check
         move ! (2 ∷ 0 ∷ []) $ fsplit ! $ move ! (1 ∷ []) $ fsplit ! $ move ! (1 ∷ []) $ fsplit ! $ move ! (1 ∷ 4 ∷ []) $ fjoin ! $ move ! (1 ∷ 0 ∷ []) $ fjoin ! $ move ! (1 ∷ 0 ∷ []) $ fjoin ! $ move ! (1 ∷ 0 ∷ []) $ fjoin ! $ use1 W (later (some (λ (s : Loan × (Loan × (Loan × (Loan)))). raw (Of-check 𝓤 H A mem run .pre (to-check 𝓤 H A W mem run κ-file q-file file κ-words q-words b-words o-words γ-words (length words) κ-reals q-reals b-reals o-reals γ-reals (length reals) κ-report q-report b-report o-report γ-report (length report) (s-rows .0 ∷ []) fullShare l5 0 (s-rows .1) 0 words reals report (replicate 0 (x1 .0)) s)) ⊛ ‵ (Kept-check 𝓤 H A W mem run κ-file q-file file κ-words q-words b-words o-words γ-words (length words) κ-reals q-reals b-reals o-reals γ-reals (length reals) κ-report q-report b-report o-report γ-report (length report) (s-rows .0 ∷ []) fullShare l5 0 (s-rows .1) 0 words reals report (replicate 0 (x1 .0)) s)))) (check-asks 𝓤 H A W mem run κ-file q-file file κ-words q-words b-words o-words γ-words (length words) κ-reals q-reals b-reals o-reals γ-reals (length reals) κ-report q-report b-report o-report γ-report (length report) (s-rows .0 ∷ []) fullShare l5 0 (s-rows .1) 0 words reals report (replicate 0 (x1 .0))) $ await ! tt $ pick ! (λ s2. split ! $
         calls-at ! fm (Of-check 𝓤 H A mem run) known-check (to-check 𝓤 H A W mem run κ-file q-file file κ-words q-words b-words o-words γ-words (length words) κ-reals q-reals b-reals o-reals γ-reals (length reals) κ-report q-report b-report o-report γ-report (length report) (s-rows .0 ∷ []) fullShare l5 0 (s-rows .1) 0 words reals report (replicate 0 (x1 .0)) s2) (and-then ! (load ! (from ! (stop !)) (look ! 28 refl)) (and-then ! (load ! (from ! (stop !)) (look ! 15 refl)) (and-then ! (load ! (from ! (stop !)) (look ! 11 refl)) (and-then ! (load ! (from ! (stop !)) (look ! 7 refl)) (and-then ! (load ! (from ! (stop !)) (look ! 3 refl)) (no-more !)))))) (λ w2.
-        use2 W (later (some (λ (x : (Answer × (List ℕ × (List Float × (List Row × (List ℕ × Unit {0})))))). given ((Outcome (file .now) words (x .1 .0) reals (x .1 .1 .0) (replicate 0 (x1 .0)) (x .1 .1 .1 .0) report (x .1 .1 .1 .1 .0) (x .0)) × (length (x .1 .0) ≡ length words) × (length (x .1 .1 .0) ≡ length reals) × (length (x .1 .1 .1 .0) ≡ length (replicate 0 (x1 .0))) × (length (x .1 .1 .1 .1 .0) ≡ length report)) (‵ (E.the-row .own (x .0) (w2 ∷ [])) ⊛ ‵ (All 𝓤 H A W mem run κ-file q-file file κ-words q-words b-words o-words γ-words (length words) κ-reals q-reals b-reals o-reals γ-reals (length reals) κ-report q-report b-report o-report γ-report (length report) (s-rows .0 ∷ []) fullShare l5 0 (s-rows .1) 0 (x .1 .0) (x .1 .1 .0) (x .1 .1 .1 .1 .0) (x .1 .1 .1 .0)))))) (check-gives 𝓤 H A W mem run κ-file q-file file κ-words q-words b-words o-words γ-words (length words) κ-reals q-reals b-reals o-reals γ-reals (length reals) κ-report q-report b-report o-report γ-report (length report) (s-rows .0 ∷ []) fullShare l5 0 (s-rows .1) 0 words reals report (replicate 0 (x1 .0)) s2 w2) $ await ! tt $ pick ! (λ x2. learn ! (λ f2. split ! $
+        use2 W (later (some (λ (x : (Answer × (List ℕ × (List Float × (List FaultRow × (List ℕ × Unit {0})))))). given ((Outcome (file .now) words (x .1 .0) reals (x .1 .1 .0) (replicate 0 (x1 .0)) (x .1 .1 .1 .0) report (x .1 .1 .1 .1 .0) (x .0)) × (length (x .1 .0) ≡ length words) × (length (x .1 .1 .0) ≡ length reals) × (length (x .1 .1 .1 .0) ≡ length (replicate 0 (x1 .0))) × (length (x .1 .1 .1 .1 .0) ≡ length report)) (‵ (E.the-row .own (x .0) (w2 ∷ [])) ⊛ ‵ (All 𝓤 H A W mem run κ-file q-file file κ-words q-words b-words o-words γ-words (length words) κ-reals q-reals b-reals o-reals γ-reals (length reals) κ-report q-report b-report o-report γ-report (length report) (s-rows .0 ∷ []) fullShare l5 0 (s-rows .1) 0 (x .1 .0) (x .1 .1 .0) (x .1 .1 .1 .1 .0) (x .1 .1 .1 .0)))))) (check-gives 𝓤 H A W mem run κ-file q-file file κ-words q-words b-words o-words γ-words (length words) κ-reals q-reals b-reals o-reals γ-reals (length reals) κ-report q-report b-report o-report γ-report (length report) (s-rows .0 ∷ []) fullShare l5 0 (s-rows .1) 0 words reals report (replicate 0 (x1 .0)) s2 w2) $ await ! tt $ pick ! (λ x2. learn ! (λ f2. split ! $
         peeks ! E.the-row (Is E.the-row) (shows 𝓤 H A E.the-row) (x2 .0) (w2 ∷ []) (λ is2. land ! (from ! (stop !)) (init ! 30 refl (EL.lawful E.the-type E′.the-laws 𝓤 H A W tt .typed (x2 .0) (w2 ∷ []) is2 .0)) $ drop ! $
         fsplit ! $ move ! (1 ∷ []) $ fsplit ! $ move ! (1 ∷ []) $ fsplit ! $ move ! (1 ∷ []) $ fsplit ! $ move ! (2 ∷ 0 ∷ []) $ fjoin ! $ move ! (2 ∷ 0 ∷ []) $ fjoin ! $ move ! (2 ∷ 0 ∷ []) $ fjoin ! $ move ! (1 ∷ 2 ∷ []) $ use2 W (later (‵ (froom (tyArray T′.mir 0) l5 0))) (Loc.array-home R tt 𝓤 H A W 0 l5 (s-rows .0) (s-rows .1) _ _ (x2 .1 .1 .1 .0) ((f2 .3) ∙ length-replicate 0 (x1 .0))) $ await ! tt $
         returns ! (look ! 29 refl) $ forget ! 2 refl $ forget ! 4 refl $ forget ! 6 refl $ forget ! 8 refl $ forget ! 10 refl $ forget ! 12 refl $ forget ! 14 refl $ forget ! 16 refl $ forget ! 18 refl $ forget ! 21 refl $ forget ! 23 refl $ forget ! 25 refl $ forget ! 27 refl $ forget ! 29 refl $
         move ! (29 ∷ 30 ∷ []) $ free1 ! $ move ! (27 ∷ 28 ∷ []) $ free1 ! $ move ! (25 ∷ 26 ∷ []) $ free1 ! $ move ! (23 ∷ 24 ∷ []) $ free1 ! $ move ! (21 ∷ 22 ∷ []) $ free1 ! $ move ! (0 ∷ 20 ∷ []) $ free1 ! $ move ! (17 ∷ 18 ∷ []) $ free1 ! $ move ! (15 ∷ 16 ∷ []) $ free1 ! $ move ! (13 ∷ 14 ∷ []) $ free1 ! $ move ! (11 ∷ 12 ∷ []) $ free1 ! $ move ! (9 ∷ 10 ∷ []) $ free1 ! $ move ! (7 ∷ 8 ∷ []) $ free1 ! $ move ! (5 ∷ 6 ∷ []) $ free1 ! $ move ! (3 ∷ 4 ∷ []) $ free1 ! $ move ! (1 ∷ 2 ∷ []) $ free1 ! $ free0 ! $
-        owned ! E.the-row (Is E.the-row) (EL.makes E.the-type E′.the-plain 𝓤 H A) (x2 .0) (w2 ∷ []) is2 $ move ! (1 ∷ 0 ∷ []) $ by ! (exits (x2 .0) w2 (x2 .1 .0) (x2 .1 .1 .0) (x2 .1 .1 .1 .1 .0) (record { rows′ = (x2 .1 .1 .1 .0); outcome = subst (λ (z : Row). Outcome (file .now) words (x2 .1 .0) reals (x2 .1 .1 .0) (replicate 0 z) (x2 .1 .1 .1 .0) report (x2 .1 .1 .1 .1 .0) (x2 .0)) f1 (f2 .0) }) ((f2 .1)) ((f2 .2)) ((f2 .4)))))))))))))))))))))))))))))
+        owned ! E.the-row (Is E.the-row) (EL.makes E.the-type E′.the-plain 𝓤 H A) (x2 .0) (w2 ∷ []) is2 $ move ! (1 ∷ 0 ∷ []) $ by ! (exits (x2 .0) w2 (x2 .1 .0) (x2 .1 .1 .0) (x2 .1 .1 .1 .1 .0) (record { rows′ = (x2 .1 .1 .1 .0); outcome = subst (λ (z : FaultRow). Outcome (file .now) words (x2 .1 .0) reals (x2 .1 .1 .0) (replicate 0 z) (x2 .1 .1 .1 .0) report (x2 .1 .1 .1 .1 .0) (x2 .0)) f1 (f2 .0) }) ((f2 .1)) ((f2 .2)) ((f2 .4)))))))))))))))))))))))))))))
 
 module _ {M : Type 1} (𝓤 : URA M) (H : Heap 𝓤) (A : Atoms 𝓤) (W : Given 𝓤 H A) (mem : Memory → SProp 𝓤) (run : Routine → Fun 𝓤) where
   check-rowless-walks : (C : Calls 𝓤 H) (Λ : Loops 𝓤 H) → FmC 𝓤 H (W .laws) C → Triple 𝓤 (C #zero-row) (Of-zero-row 𝓤 H A mem run) → Triple 𝓤 (C #check) (Of-check 𝓤 H A mem run) → Walks 𝓤 H A check-rowless.ended stayed (WpFn 𝓤 H C Λ code.function) (check-rowless.clauses 𝓤 H A mem run)

@@ -49,14 +49,14 @@ use denote.Triple.Spec.{Meets, tripleOf}
 use denote.Triple.Statement.{Contract, Triple}
 use denote.Triple.Table.{entered, cited}
 use denote.Triple.Walked.{says, needs, Stays, stay-slice, stay-none-slice, stay-none, walkOf, Walks, ends-at, walked, goes-slice, goes-none-slice, goes-none, walk-meets}
-use Rattle.fault_row.specs.declared.row.Row.{Row}
+use Rattle.fault_row.specs.declared.row.FaultRow.{FaultRow}
 use Rattle.fault_row.specs.Row.{rowAt, rowRoom}
 use Rattle.fault_rows.specs.Rows.{zeroRow, painted}
 use Rattle.fault_row.proofs.RowLaws.{cells-fit, numbers-fit}
 use Rattle.fault_rows.proofs.RowsLaws.{painted-none, painted-one, painted-length}
 use Rattle.fault_rows.proofs.After.{after}
-use Rattle.fault_row.proofs.row.Row as T
-use Rattle.fault_row.proofs.row.Row.Laws as T′
+use Rattle.fault_row.proofs.row.FaultRow as T
+use Rattle.fault_row.proofs.row.FaultRow.Laws as T′
 use Rattle.fault_row.proofs.row.row_at as row-at
 use Rattle.fault_row.proofs.row.row_at.Symbol as row-at-def
 use Rattle.fault_row.proofs.row.row_at.Symbol.{name as #row-at}
@@ -89,7 +89,7 @@ abbrev stayed : Stays (put-rows.ended .signature .params) (put-rows.ended .kept)
 stayed = (stay-slice (0 ∷ []) tt (plain (λ _. R)), (stay-none-slice (1 ∷ []) tt (plain (λ _. u32)) yes, (stay-none-slice (2 ∷ []) tt (plain (λ _. f64)) yes, (stay-none (λ _. usize) yes, tt))))
 
 abbrev Arg : Type 0
-Arg = RefT (List Row) × (RefT (List ℕ) × (RefT (List Float) × (ℕ × Unit {0})))
+Arg = RefT (List FaultRow) × (RefT (List ℕ) × (RefT (List Float) × (ℕ × Unit {0})))
 
 abbrev slice : Ty
 slice = sliceTy (tyRef (named 0) mut (pointee (R .written)))
@@ -107,12 +107,12 @@ word = tyInt w64
 abbrev RowAt : {M : Type 1} (𝓤 : URA M) (H : Heap 𝓤) (A : Atoms 𝓤) (mem : Memory → SProp 𝓤) (run : Routine → Fun 𝓤) → Contract 𝓤
 RowAt 𝓤 H A mem run = tripleOf 𝓤 H A row-at.signature (row-at.spec 𝓤 H A mem run)
 
-module _ {M : Type 1} (𝓤 : URA M) (H : Heap 𝓤) (A : Atoms 𝓤) (W : Given 𝓤 H A) (mem : Memory → SProp 𝓤) (run : Routine → Fun 𝓤) (κ κ₁ κ₂ : Lft) (q q₁ q₂ : Share) (b o : ℕ) (γ : GName) (ys : List Row) (us : RefT (List ℕ)) (fs : RefT (List Float)) (n : ℕ)
+module _ {M : Type 1} (𝓤 : URA M) (H : Heap 𝓤) (A : Atoms 𝓤) (W : Given 𝓤 H A) (mem : Memory → SProp 𝓤) (run : Routine → Fun 𝓤) (κ κ₁ κ₂ : Lft) (q q₁ q₂ : Share) (b o : ℕ) (γ : GName) (ys : List FaultRow) (us : RefT (List ℕ)) (fs : RefT (List Float)) (n : ℕ)
     (room : Room R (length ys)) (room-u : Room u32 (length (us .now))) (room-f : Room f64 (length (fs .now))) (n-fits : n < 2 ^ 64) (pre : (n ≤ length ys) × (n ≤ rowRoom (length (us .now)) (length (fs .now)))) where
-  abbrev g : ℕ → Row
+  abbrev g : ℕ → FaultRow
   g = rowAt (us .now) (fs .now)
 
-  abbrev r : List Row → RefT (List Row)
+  abbrev r : List FaultRow → RefT (List FaultRow)
   r l = record { ptr = (b, o); name = γ; now = l }
 
   abbrev a : Arg
@@ -144,7 +144,7 @@ module _ {M : Type 1} (𝓤 : URA M) (H : Heap 𝓤) (A : Atoms 𝓤) (W : Given
   abbrev Ins : Fml
   Ins = fsep UF (fsep (flft κ₁ q₁) (flft κ₂ q₂))
 
-  exits : (zs : List Row) → zs ≡ painted g n ys → length zs ≡ length ys
+  exits : (zs : List FaultRow) → zs ≡ painted g n ys → length zs ≡ length ys
       → ent 𝓤 (⋆ 𝓤 H A (‵ (fobs γ (codedHoleys R .code (heres R zs))) ∷ ‵ (fbor κ (Held R (length zs) b o γ)) ∷ ‵ (flft κ q) ∷ ‵ Ins ∷ [])) (Post vunit)
   exits zs e le =
       qed W (‵ (fobs γ (codedHoleys R .code (heres R zs))) ∷ ‵ (fbor κ (Held R (length zs) b o γ)) ∷ ‵ (flft κ q) ∷ ‵ Ins ∷ []) ∵
@@ -193,7 +193,7 @@ module _ {M : Type 1} (𝓤 : URA M) (H : Heap 𝓤) (A : Atoms 𝓤) (W : Given
   back = qed W ((‵ (flft κ₁ q₁) ⊛ ‵ (flft κ₂ q₂) ⊛ ‵ ftrue) ∷ ‵ UF ∷ []) ∵ split ! $ move ! (1 ∷ []) $ split ! $ move ! (1 ∷ []) $ drop ! $ move ! (1 ∷ 0 ∷ []) $ fjoin ! $ move ! (1 ∷ 0 ∷ []) $ fjoin ! $ done !
 
   -- of the callee's `ensured`, the clause alone
-  said : (i : ℕ) (f : Row) → ent 𝓤 (ensured 𝓤 H A row-at.ended (row-at.clauses 𝓤 H A mem run) (κ₁, (κ₂, tt)) (us, (fs, (i, tt))) tt f) (fact 𝓤 (f ≡ g i))
+  said : (i : ℕ) (f : FaultRow) → ent 𝓤 (ensured 𝓤 H A row-at.ended (row-at.clauses 𝓤 H A mem run) (κ₁, (κ₂, tt)) (us, (fs, (i, tt))) tt f) (fact 𝓤 (f ≡ g i))
   said i f = exE 𝓤 _ (λ ws. snd∗ 𝓤 (sem 𝓤 H A (lasts row-at.ended (κ₁, (κ₂, tt)) (us, (fs, (i, tt))) ws)) (fact 𝓤 (f ≡ g i)))
 
   module _ (𝓣 : Tables 𝓤 H) (known : Triple 𝓤 (𝓣 .C #row-at) (RowAt 𝓤 H A mem run)) (l₀ l₁ l₂ l₃ l₄ l₅ l₆ l₇ l₈ l₉ : ℕ) where
@@ -229,7 +229,7 @@ module _ {M : Type 1} (𝓤 : URA M) (H : Heap 𝓤) (A : Atoms 𝓤) (W : Given
         move ! (4 ∷ []) $ use1 W (raw (RowAt 𝓤 H A mem run .pre (to (i .0))) ⊛ ‵ UF) (apart (i .0) below) $ split ! $
         -- [what `row_at` asks; us and fs; the row; the open borrow; obs; auth; _9; …]
         calls-at ! (fmOf 𝓤 H (W .laws) 𝓣) (RowAt 𝓤 H A mem run) known (to (i .0)) (and-then ! (load ! (from ! (stop !)) (look ! 20 refl)) (and-then ! (load ! (from ! (stop !)) (look ! 18 refl)) (and-then ! (load ! (from ! (stop !)) (look ! 14 refl)) (no-more !)))) (λ v.
-        use1 W (later (some (λ (f : Row). ((‵ (flft κ₁ q₁) ⊛ ‵ (flft κ₂ q₂) ⊛ ‵ ftrue) ⊛ ‵ (R .own f (v ∷ []))) ⊛ raw (ensured 𝓤 H A row-at.ended (row-at.clauses 𝓤 H A mem run) (κ₁, (κ₂, tt)) (us, (fs, (i .0, tt))) tt f)))) (id⊢ 𝓤 _) $ await ! tt $ pick ! (λ f.
+        use1 W (later (some (λ (f : FaultRow). ((‵ (flft κ₁ q₁) ⊛ ‵ (flft κ₂ q₂) ⊛ ‵ ftrue) ⊛ ‵ (R .own f (v ∷ []))) ⊛ raw (ensured 𝓤 H A row-at.ended (row-at.clauses 𝓤 H A mem run) (κ₁, (κ₂, tt)) (us, (fs, (i .0, tt))) tt f)))) (id⊢ 𝓤 _) $ await ! tt $ pick ! (λ f.
         split ! $ move ! (1 ∷ []) $ use1 W (raw (fact 𝓤 (f ≡ g (i .0)))) (said (i .0) f) $ heard ! (f ≡ g (i .0)) (λ e. split ! $ move ! (1 ∷ []) $
         peeks ! R (Is R) (shows 𝓤 H A R) f (v ∷ []) (λ is.
         let typed = LL.lawful T.the-type T′.the-laws 𝓤 H A W .typed f (v ∷ []) is .0 in
@@ -242,7 +242,7 @@ module _ {M : Type 1} (𝓤 : URA M) (H : Heap 𝓤) (A : Atoms 𝓤) (W : Given
         move ! (2 ∷ []) $ elem-out ! R (Is R) (shows 𝓤 H A R) (LL.vals T.the-type T′.the-laws) (LL.tells T.the-type T′.the-laws) fullShare (painted g (i .0) ys) (i .0) zeroRow b o within (λ _.
         assigns ! (of-opd ! (load ! (from ! (stop !)) (look ! 12 refl))) (from ! (hop ! (look ! 8 refl) (stop !))) (store-raw ! 0 refl typed) $
         move ! (1 ∷ []) $ drop ! $ move ! (0 ∷ 3 ∷ 1 ∷ []) $ elem-put ! R fullShare (painted g (i .0) ys) (i .0) f (v ∷ []) b o within $
-        rewrite ! 0 (λ (l : List Row). ‵ (row R fullShare l b o)) (ap (λ (h : Row). set (painted g (i .0) ys) (i .0) h) e ∙ painted-one g (i .0) ys) refl $
+        rewrite ! 0 (λ (l : List FaultRow). ‵ (row R fullShare l b o)) (ap (λ (h : FaultRow). set (painted g (i .0) ys) (i .0) h) e ∙ painted-one g (i .0) ys) refl $
         assigns-last ! (bin ! (load ! (from ! (stop !)) (look ! 13 refl)) (lit ! tt) (record { fits = fits (next less) })) (from ! (stop !)) (store ! 13 refl (tt, record { fits = fits (next less) })) $
         forget ! 5 refl $ forget ! 7 refl $ forget ! 9 refl $ forget ! 11 refl $ move ! (0 ∷ 2 ∷ 3 ∷ 4 ∷ 1 ∷ []) $ again ! Nearer At i (next less) (add-one-dec n (i .0) below)))))))
         (λ over. jumps ! $ exec ! C Λ En pieces.t-3 (atRet En Post) $
@@ -274,7 +274,7 @@ module _ {M : Type 1} (𝓤 : URA M) (H : Heap 𝓤) (A : Atoms 𝓤) (W : Given
       -- [fs; n; us; rows; κ₁ and κ₂; κ; _9; …]
       move ! (2 ∷ 0 ∷ []) $ fjoin ! $ move ! (0 ∷ 3 ∷ []) $ fjoin ! $ move ! (2 ∷ []) $ fsplit ! $ drop ! $ fsplit ! $
       -- [obs; the borrow; Ins; n; κ; _9; …]
-      move ! (0 ∷ 1 ∷ 4 ∷ []) $ opens-slice ! tt R ys b o $ rewrite ! 0 (λ (l : List Row). ‵ (row R fullShare l b o)) (sym (painted-none g ys)) refl $
+      move ! (0 ∷ 1 ∷ 4 ∷ []) $ opens-slice ! tt R ys b o $ rewrite ! 0 (λ (l : List FaultRow). ‵ (row R fullShare l b o)) (sym (painted-none g ys)) refl $
       move ! (5 ∷ []) $ drop ! $
       first ! $ blocks ! $ loops ! 𝓣 Nearer Nearer-wf (At 𝓣 known l₀ l₁ l₂ l₃ l₄ l₅ l₆ l₇ l₈ l₉) (turns 𝓣 known l₀ l₁ l₂ l₃ l₄ l₅ l₆ l₇ l₈ l₉) (0, zero-le)))))))))))
 

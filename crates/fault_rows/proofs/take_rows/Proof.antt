@@ -47,14 +47,14 @@ use denote.Triple.Spec.{Meets, tripleOf}
 use denote.Triple.Statement.{Contract, Triple}
 use denote.Triple.Table.{entered, cited}
 use denote.Triple.Walked.{says, needs, Stays, stay-slice, stay-none-slice, stay-none, walkOf, Walks, ends-at, walked, goes-slice, goes-none-slice, goes-none, walk-meets}
-use Rattle.fault_row.specs.declared.row.Row.{Row}
+use Rattle.fault_row.specs.declared.row.FaultRow.{FaultRow}
 use Rattle.fault_row.specs.Row.{rowRoom, RowPut}
 use Rattle.fault_rows.specs.Rows.{zeroRow, Taken}
 use Rattle.fault_rows.proofs.RowsLaws.{taken-none, taken-one}
 use Rattle.fault_rows.proofs.After.{after}
 use Rattle.fault_rows.proofs.Lent as L
-use Rattle.fault_row.proofs.row.Row as T
-use Rattle.fault_row.proofs.row.Row.Laws as T′
+use Rattle.fault_row.proofs.row.FaultRow as T
+use Rattle.fault_row.proofs.row.FaultRow.Laws as T′
 use Rattle.fault_rows.proofs.take_rows.Key.{name as #take-rows}
 use Rattle.fault_rows.proofs.take_rows as take-rows
 use Rattle.fault_rows.proofs.take_rows.Statement as stated
@@ -77,7 +77,7 @@ abbrev stayed : Stays (take-rows.ended .signature .params) (take-rows.ended .kep
 stayed = (stay-none-slice (0 ∷ []) tt (plain (λ _. R)) yes, (stay-slice (1 ∷ []) tt (plain (λ _. u32)), (stay-slice (2 ∷ []) tt (plain (λ _. f64)), (stay-none (λ _. usize) yes, tt))))
 
 abbrev Arg : Type 0
-Arg = RefT (List Row) × (RefT (List ℕ) × (RefT (List Float) × (ℕ × Unit {0})))
+Arg = RefT (List FaultRow) × (RefT (List ℕ) × (RefT (List Float) × (ℕ × Unit {0})))
 
 abbrev slice : Ty
 slice = sliceTy (tyRef (named 0) imm (pointee (R .written)))
@@ -101,7 +101,7 @@ abbrev Loan : Type 0
 Loan = ℕ × GName
 
 -- i rows are taken: what cells and numbers hold then
-record Turn (ys : List Row) (us : List ℕ) (fs : List Float) (n : ℕ) : Type 0 where
+record Turn (ys : List FaultRow) (us : List ℕ) (fs : List Float) (n : ℕ) : Type 0 where
   pub i : ℕ
   pub low : i ≤ n
   pub cells : List ℕ
@@ -112,7 +112,7 @@ record Turn (ys : List Row) (us : List ℕ) (fs : List Float) (n : ℕ) : Type 0
 abbrev PutRow : {M : Type 1} (𝓤 : URA M) (H : Heap 𝓤) (A : Atoms 𝓤) (mem : Memory → SProp 𝓤) (run : Routine → Fun 𝓤) → Contract 𝓤
 PutRow 𝓤 H A mem run = tripleOf 𝓤 H A put-row.signature (put-row.spec 𝓤 H A mem run)
 
-module _ {M : Type 1} (𝓤 : URA M) (H : Heap 𝓤) (A : Atoms 𝓤) (W : Given 𝓤 H A) (mem : Memory → SProp 𝓤) (run : Routine → Fun 𝓤) (κ κ₁ κ₂ : Lft) (q q₁ q₂ : Share) (b o : ℕ) (γ : GName) (ys : List Row) (b₁ o₁ : ℕ) (γ₁ : GName) (us : List ℕ) (b₂ o₂ : ℕ) (γ₂ : GName) (fs : List Float) (n : ℕ)
+module _ {M : Type 1} (𝓤 : URA M) (H : Heap 𝓤) (A : Atoms 𝓤) (W : Given 𝓤 H A) (mem : Memory → SProp 𝓤) (run : Routine → Fun 𝓤) (κ κ₁ κ₂ : Lft) (q q₁ q₂ : Share) (b o : ℕ) (γ : GName) (ys : List FaultRow) (b₁ o₁ : ℕ) (γ₁ : GName) (us : List ℕ) (b₂ o₂ : ℕ) (γ₂ : GName) (fs : List Float) (n : ℕ)
     (room : Room R (length ys)) (fu : length us < 2 ^ 64) (ff : length fs < 2 ^ 64) (n-fits : n < 2 ^ 64) (pre : (n ≤ length ys) × (n ≤ rowRoom (length us) (length fs))) where
   abbrev rv : Val
   rv = sliceVal (b, o) (length ys)
@@ -129,7 +129,7 @@ module _ {M : Type 1} (𝓤 : URA M) (H : Heap 𝓤) (A : Atoms 𝓤) (W : Given
   abbrev atF : GName → List Float → RefT (List Float)
   atF δ l = record { ptr = (b₂, o₂); name = δ; now = l }
 
-  abbrev rows : RefT (List Row)
+  abbrev rows : RefT (List FaultRow)
   rows = record { ptr = (b, o); name = γ; now = ys }
 
   abbrev a : Arg
@@ -185,7 +185,7 @@ module _ {M : Type 1} (𝓤 : URA M) (H : Heap 𝓤) (A : Atoms 𝓤) (W : Given
       feqI ! (List Val) (vunit ∷ []) (vunit ∷ []) refl $ done !
 
   -- ---- put_at, at place i, from the lists l and m, with the row f at its machine value v
-  module _ (i : ℕ) (l : List ℕ) (m : List Float) (f : Row) (v : Val) (is : Is R f (v ∷ [])) (small : i < 2 ^ 64) where
+  module _ (i : ℕ) (l : List ℕ) (m : List Float) (f : FaultRow) (v : Val) (is : Is R f (v ∷ [])) (small : i < 2 ^ 64) where
     abbrev to : Loan × Loan → PutRow 𝓤 H A mem run .Ghost
     to s = (((s .0 .0 ∷ [], (s .1 .0 ∷ [], tt)), (fullShare, (fullShare, tt)), tt, (atU (s .0 .1) l, (atF (s .1 .1) m, (i, (f, tt)))), (uv ∷ [], (fv ∷ [], (vint w64 i ∷ [], (v ∷ [], tt))))), tt)
 

@@ -47,13 +47,13 @@ use denote.Triple.Spec.{Meets, tripleOf}
 use denote.Triple.Table.{entered}
 use denote.Exit.{yes}
 use denote.Triple.Walked.{says, needs, Stays, stay-slice, stay-none, walkOf, Walks, ends-at, walked, goes-slice, goes-none, walk-meets}
-use Rattle.fault_row.specs.declared.row.Row.{Row}
+use Rattle.fault_row.specs.declared.row.FaultRow.{FaultRow}
 use mathlib.Core.Bool.{cond}
 use Rattle.fault_rows.specs.Rows.{zeroRow, rowIn, painted, wiped}
 use Rattle.fault_rows.proofs.RowsLaws.{painted-one, painted-length, wiped-own, wiped-zero, wiped-whole}
 use Rattle.fault_rows.proofs.After.{after}
-use Rattle.fault_row.proofs.row.Row as T
-use Rattle.fault_row.proofs.row.Row.Laws as T′
+use Rattle.fault_row.proofs.row.FaultRow as T
+use Rattle.fault_row.proofs.row.FaultRow.Laws as T′
 use Rattle.fault_rows.proofs.wipe_rows.Key.{name as #wipe-rows}
 use Rattle.fault_rows.proofs.wipe_rows as wipe-rows
 use Rattle.fault_rows.proofs.wipe_rows.Statement as stated
@@ -64,7 +64,7 @@ abbrev stayed : Stays (wipe-rows.ended .signature .params) (wipe-rows.ended .kep
 stayed = (stay-slice (0 ∷ []) tt (plain (λ _. T.the-row)), (stay-none (λ _. usize) yes, tt))
 
 abbrev Arg : Type 0
-Arg = RefT (List Row) × (ℕ × Unit {0})
+Arg = RefT (List FaultRow) × (ℕ × Unit {0})
 
 abbrev slice : Ty
 slice = sliceTy (tyRef (named 0) mut (pointee (T.the-row .written)))
@@ -75,15 +75,15 @@ word = tyInt w64
 abbrev zv : Val
 zv = LL.val T.the-type T′.the-laws zeroRow
 
-module _ {M : Type 1} (𝓤 : URA M) (H : Heap 𝓤) (A : Atoms 𝓤) (W : Given 𝓤 H A) (mem : Memory → SProp 𝓤) (run : Routine → Fun 𝓤) (κ : Lft) (q : Share) (b o : ℕ) (γ : GName) (ys : List Row) (j : ℕ) (room : Room T.the-row (length ys)) (j-fits : j < 2 ^ 64) (pre : j ≤ length ys) where
+module _ {M : Type 1} (𝓤 : URA M) (H : Heap 𝓤) (A : Atoms 𝓤) (W : Given 𝓤 H A) (mem : Memory → SProp 𝓤) (run : Routine → Fun 𝓤) (κ : Lft) (q : Share) (b o : ℕ) (γ : GName) (ys : List FaultRow) (j : ℕ) (room : Room T.the-row (length ys)) (j-fits : j < 2 ^ 64) (pre : j ≤ length ys) where
   abbrev n : ℕ
   n = length ys
 
   -- row k at the end
-  abbrev g : ℕ → Row
+  abbrev g : ℕ → FaultRow
   g k = cond (ltb k j) (rowIn ys k) zeroRow
 
-  abbrev r : List Row → RefT (List Row)
+  abbrev r : List FaultRow → RefT (List FaultRow)
   r l = record { ptr = (b, o); name = γ; now = l }
 
   abbrev a : Arg
@@ -95,7 +95,7 @@ module _ {M : Type 1} (𝓤 : URA M) (H : Heap 𝓤) (A : Atoms 𝓤) (W : Given
   abbrev Post : Val → SProp 𝓤
   Post = walkOf 𝓤 H A wipe-rows.ended stayed (wipe-rows.clauses 𝓤 H A mem run) .post (((κ, tt), (q, tt), tt, a, vals), tt)
 
-  exits : (zs : List Row) → zs ≡ wiped j ys → length zs ≡ n → ent 𝓤 (⋆ 𝓤 H A (‵ (fobs γ (codedHoleys T.the-row .code (heres T.the-row zs))) ∷ ‵ (fbor κ (Held T.the-row (length zs) b o γ)) ∷ ‵ (flft κ q) ∷ []))
+  exits : (zs : List FaultRow) → zs ≡ wiped j ys → length zs ≡ n → ent 𝓤 (⋆ 𝓤 H A (‵ (fobs γ (codedHoleys T.the-row .code (heres T.the-row zs))) ∷ ‵ (fbor κ (Held T.the-row (length zs) b o γ)) ∷ ‵ (flft κ q) ∷ []))
       (Post vunit)
   exits zs e le =
       qed W (‵ (fobs γ (codedHoleys T.the-row .code (heres T.the-row zs))) ∷ ‵ (fbor κ (Held T.the-row (length zs) b o γ)) ∷ ‵ (flft κ q) ∷ []) ∵
@@ -153,7 +153,7 @@ module _ {M : Type 1} (𝓤 : URA M) (H : Heap 𝓤) (A : Atoms 𝓤) (W : Given
         elem-out ! T.the-row (Is T.the-row) (shows 𝓤 H A T.the-row) (LL.vals T.the-type T′.the-laws) (LL.tells T.the-type T′.the-laws) fullShare (painted g (i .0) ys) (i .0) zeroRow b o within (λ _.
         assigns ! (of-opd ! (load ! (from ! (stop !)) (look ! 14 refl))) (from ! (hop ! (look ! 6 refl) (stop !))) (store-raw ! 0 refl typed) $
         move ! (1 ∷ []) $ drop ! $ owned ! T.the-row (Is T.the-row) (LL.makes T.the-type T′.the-plain 𝓤 H A) zeroRow (zv ∷ []) zero-is $ move ! (1 ∷ 0 ∷ []) $ elem-put ! T.the-row fullShare (painted g (i .0) ys) (i .0) zeroRow (zv ∷ []) b o within $
-        rewrite ! 0 (λ (l : List Row). ‵ (row T.the-row fullShare l b o)) (ap (set (painted g (i .0) ys) (i .0)) (wiped-zero j ys (i .0) (i .1 .0)) ∙ painted-one g (i .0) ys) refl $
+        rewrite ! 0 (λ (l : List FaultRow). ‵ (row T.the-row fullShare l b o)) (ap (set (painted g (i .0) ys) (i .0)) (wiped-zero j ys (i .0) (i .1 .0)) ∙ painted-one g (i .0) ys) refl $
         assigns-last ! (bin ! (load ! (from ! (stop !)) (look ! 10 refl)) (lit ! tt) (record { fits = fits (next less) })) (from ! (stop !)) (store ! 10 refl (tt, record { fits = fits (next less) })) $
         forget ! 4 refl $ forget ! 6 refl $ forget ! 8 refl $ again ! Nearer At i (next less) (add-one-dec n (i .0) (ltb→lt (i .0) n less))))
         (λ over. jumps ! $ exec ! C Λ En pieces.t-4 (atRet En Post) $
@@ -183,7 +183,7 @@ module _ {M : Type 1} (𝓤 : URA M) (H : Heap 𝓤) (A : Atoms 𝓤) (W : Given
       assigns ! (of-opd ! (load ! (from ! (stop !)) (look ! 10 refl))) (from ! (stop !)) (init ! 6 refl (tt, record { fits = j-fits })) $
       -- [_7; …; _6; …; _5; …; _4; …; _3; …; _2; …; _1; …; room for _0; …; the token (16); what rows and from own (17)]
       move ! (17 ∷ []) $ fsplit ! $ fsplit ! $ move ! (1 ∷ []) $ fsplit ! $ move ! (20 ∷ []) $ split ! $ move ! (2 ∷ 3 ∷ 0 ∷ []) $
-      opens-slice ! tt T.the-row ys b o $ rewrite ! 0 (λ (l : List Row). ‵ (row T.the-row fullShare l b o)) (sym (wiped-own j ys)) refl $
+      opens-slice ! tt T.the-row ys b o $ rewrite ! 0 (λ (l : List FaultRow). ‵ (row T.the-row fullShare l b o)) (sym (wiped-own j ys)) refl $
       keep ! (0 ∷ 1 ∷ 2 ∷ 3 ∷ 7 ∷ 8 ∷ 9 ∷ 10 ∷ 11 ∷ 12 ∷ 13 ∷ 14 ∷ 15 ∷ 16 ∷ 17 ∷ 18 ∷ 19 ∷ 20 ∷ 21 ∷ 22 ∷ []) $ first ! $ blocks ! $ loops ! 𝓣 Nearer Nearer-wf (At 𝓣 l₀ l₁ l₂ l₃ l₄ l₅ l₆ l₇) (turns 𝓣 l₀ l₁ l₂ l₃ l₄ l₅ l₆ l₇) (j, (omega arith, pre))))))))))
 
 module _ {M : Type 1} (𝓤 : URA M) (H : Heap 𝓤) (A : Atoms 𝓤) (W : Given 𝓤 H A) (mem : Memory → SProp 𝓤) (run : Routine → Fun 𝓤) where

@@ -45,7 +45,7 @@ use denote.Triple.Spec.{Meets, tripleOf}
 use denote.Triple.Statement.{Contract, Triple}
 use denote.Triple.Table.{entered, cited}
 use denote.Triple.Walked.{says, Stays, stay-slice, stay-none-slice, walkOf, Walks, ends-at, walked, goes-slice, goes-none-slice, walk-meets}
-use Rattle.fault_row.specs.declared.row.Row.{Row}
+use Rattle.fault_row.specs.declared.row.FaultRow.{FaultRow}
 use Rattle.dfm_core.specs.declared.answer.Answer.{Answer}
 use Rattle.dfm_core.specs.declared.halves.Findings.{Findings}
 use Rattle.fault_row.specs.Row.{rowAt, rowRoom}
@@ -58,7 +58,7 @@ use Rattle.dfm.proofs.OutcomeLaws.{rows-room, faults-fit, ready-taken, 
 use Rattle.fault_rows.proofs.Lent as L
 use Rattle.fault_rows.proofs.Big.{big-lit}
 use Rattle.fault_rows.proofs.Local as Loc
-use Rattle.fault_row.proofs.row.Row as T
+use Rattle.fault_row.proofs.row.FaultRow as T
 use Rattle.dfm_core.proofs.answer.Answer as E
 use Rattle.dfm_core.proofs.answer.Answer.Laws as E′
 use Rattle.dfm_core.proofs.halves.Findings as FD
@@ -103,7 +103,7 @@ abbrev stayed : Stays (check.ended .signature .params) (check.ended .kept)
 stayed = (stay-none-slice (0 ∷ []) tt (plain (λ _. u8)) yes, (stay-slice (1 ∷ []) tt (plain (λ _. u32)), (stay-slice (2 ∷ []) tt (plain (λ _. f64)), (stay-slice (3 ∷ []) tt (plain (λ _. R)), (stay-slice (4 ∷ []) tt (plain (λ _. u8)), tt)))))
 
 abbrev Arg : Type 0
-Arg = (RefT (List ℕ) × (RefT (List ℕ) × (RefT (List Float) × (RefT (List Row) × (RefT (List ℕ) × Unit {0})))))
+Arg = (RefT (List ℕ) × (RefT (List ℕ) × (RefT (List Float) × (RefT (List FaultRow) × (RefT (List ℕ) × Unit {0})))))
 
 -- the contracts that the proof cites
 module _ {M : Type 1} (𝓤 : URA M) (H : Heap 𝓤) (A : Atoms 𝓤) (mem : Memory → SProp 𝓤) (run : Routine → Fun 𝓤) where
@@ -236,16 +236,16 @@ module _ {M : Type 1} (𝓤 : URA M) (H : Heap 𝓤) (A : Atoms 𝓤) (W : Given
   abbrev v-rows : Val
   v-rows = sliceVal (b-rows, o-rows) m-rows
 
-  abbrev at-rows : GName → List Row → RefT (List Row)
+  abbrev at-rows : GName → List FaultRow → RefT (List FaultRow)
   at-rows γ l = record { ptr = (b-rows, o-rows); name = γ; now = l }
 
-  abbrev Had-rows : List Row → Fml
+  abbrev Had-rows : List FaultRow → Fml
   Had-rows l = L.Slot R κ-rows q-rows γ-rows b-rows o-rows (v-rows ∷ []) l
 
-  abbrev Out-rows : Loan → List Row → Fml
+  abbrev Out-rows : Loan → List FaultRow → Fml
   Out-rows s l = L.Out R κ-rows q-rows γ-rows b-rows o-rows (v-rows ∷ []) (s .0) (s .1) l
 
-  abbrev Shr-rows : Loan → List Row → Fml
+  abbrev Shr-rows : Loan → List FaultRow → Fml
   Shr-rows s l = L.Shared R κ-rows q-rows γ-rows b-rows o-rows (v-rows ∷ []) (s .0) l
 
   abbrev v-report : Val
@@ -293,11 +293,11 @@ module _ {M : Type 1} (𝓤 : URA M) (H : Heap 𝓤) (A : Atoms 𝓤) (W : Given
   abbrev Shr-numbers : Loan → List Float → Fml
   Shr-numbers s l = L.Shared f64 κ-numbers q-numbers γ-numbers b-numbers o-numbers (v-numbers ∷ []) (s .0) l
 
-  abbrev All : List ℕ → List Float → List Row → List ℕ → List ℕ → List Float → Fml
+  abbrev All : List ℕ → List Float → List FaultRow → List ℕ → List ℕ → List Float → Fml
   All l-words l-reals l-rows l-report l-cells l-numbers = (fsep Had-file (fsep (Had-words l-words) (fsep (Had-reals l-reals) (fsep (Had-rows l-rows) (fsep (Had-report l-report) (fsep (Had-cells l-cells) (Had-numbers l-numbers)))))))
 
   -- ---- find_faults
-  module _ (l-words : List ℕ) (l-reals : List Float) (l-rows : List Row) (l-report : List ℕ) (l-cells : List ℕ) (l-numbers : List Float) (x5 : ℕ) (u5 : Val) (is5 : Is usize x5 (u5 ∷ [])) where
+  module _ (l-words : List ℕ) (l-reals : List Float) (l-rows : List FaultRow) (l-report : List ℕ) (l-cells : List ℕ) (l-numbers : List Float) (x5 : ℕ) (u5 : Val) (is5 : Is usize x5 (u5 ∷ [])) where
     abbrev to-find-faults : Loan × (Loan × (Loan × (Loan))) → Of-find-faults 𝓤 H A mem run .Ghost
     to-find-faults s = (((κ-file, (s .0 .0 ∷ [], (s .1 .0 .0 ∷ [], (s .1 .1 .0 .0 ∷ [], (s .1 .1 .1 .0 ∷ [], tt))))), (q-file, (fullShare, (fullShare, (fullShare, (fullShare, tt))))), tt, (file, (at-words (s .0 .1) l-words, (at-reals (s .1 .0 .1) l-reals, (at-cells (s .1 .1 .0 .1) l-cells, (at-numbers (s .1 .1 .1 .1) l-numbers, (x5, tt)))))), (v-file ∷ [], (v-words ∷ [], (v-reals ∷ [], (v-cells ∷ [], (v-numbers ∷ [], (u5 ∷ [], tt))))))), tt)
 
@@ -328,7 +328,7 @@ module _ {M : Type 1} (𝓤 : URA M) (H : Heap 𝓤) (A : Atoms 𝓤) (W : Given
         move ! (10 ∷ []) $ fsplit ! $ move ! (1 ∷ []) $ fsplit ! $ move ! (1 ∷ []) $ fsplit ! $ move ! (1 ∷ []) $ fsplit ! $ move ! (1 ∷ []) $ fsplit ! $ move ! (1 ∷ []) $ fsplit ! $ move ! (6 ∷ 11 ∷ []) $ fjoin ! $ move ! (10 ∷ 15 ∷ 6 ∷ []) $ use3 W (later (‵ (Had-words (ws .1 .0)))) (L.home u32 κ-words q-words γ-words b-words o-words (v-words ∷ []) 𝓤 H A W (s .0 .0) (s .0 .1) l-words (ws .1 .0) long1) $ await ! tt $ move ! (9 ∷ 13 ∷ 6 ∷ []) $ use3 W (later (‵ (Had-reals (ws .1 .1 .0)))) (L.home f64 κ-reals q-reals γ-reals b-reals o-reals (v-reals ∷ []) 𝓤 H A W (s .1 .0 .0) (s .1 .0 .1) l-reals (ws .1 .1 .0) long2) $ await ! tt $ move ! (8 ∷ 11 ∷ 3 ∷ []) $ use3 W (later (‵ (Had-cells (ws .1 .1 .1 .0)))) (L.home u32 κ-cells q-cells γ-cells b-cells o-cells (v-cells ∷ []) 𝓤 H A W (s .1 .1 .0 .0) (s .1 .1 .0 .1) l-cells (ws .1 .1 .1 .0) long3) $ await ! tt $ move ! (7 ∷ 9 ∷ 4 ∷ []) $ use3 W (later (‵ (Had-numbers (ws .1 .1 .1 .1 .0)))) (L.home f64 κ-numbers q-numbers γ-numbers b-numbers o-numbers (v-numbers ∷ []) 𝓤 H A W (s .1 .1 .1 .0) (s .1 .1 .1 .1) l-numbers (ws .1 .1 .1 .1 .0) long4) $ await ! tt $ at-once ! $ show ! (Gave-find-faults w) (r, (ws .1 .0, (ws .1 .1 .0, (ws .1 .1 .1 .0, (ws .1 .1 .1 .1 .0, tt))))) $ holds ! (e, long1, long2, long3, long4) $ move ! (7 ∷ []) $ frame ! $ move ! (1 ∷ 0 ∷ []) $ fjoin ! $ move ! (4 ∷ 0 ∷ []) $ fjoin ! $ move ! (4 ∷ 0 ∷ []) $ fjoin ! $ move ! (1 ∷ 0 ∷ []) $ fjoin ! $ move ! (1 ∷ 0 ∷ []) $ fjoin ! $ move ! (1 ∷ 0 ∷ []) $ fjoin ! $ done !)))))))
 
   -- ---- put_rows
-  module _ (l-words : List ℕ) (l-reals : List Float) (l-rows : List Row) (l-report : List ℕ) (l-cells : List ℕ) (l-numbers : List Float) (x3 : ℕ) (u3 : Val) (is3 : Is usize x3 (u3 ∷ [])) where
+  module _ (l-words : List ℕ) (l-reals : List Float) (l-rows : List FaultRow) (l-report : List ℕ) (l-cells : List ℕ) (l-numbers : List Float) (x3 : ℕ) (u3 : Val) (is3 : Is usize x3 (u3 ∷ [])) where
     abbrev to-put-rows : Loan × (Loan × (Loan)) → Of-put-rows 𝓤 H A mem run .Ghost
     to-put-rows s = (((s .0 .0 ∷ [], (s .1 .0 .0 ∷ [], (s .1 .1 .0 ∷ [], tt))), (fullShare, (fullShare, (fullShare, tt))), tt, (at-rows (s .0 .1) l-rows, (at-cells (s .1 .0 .1) l-cells, (at-numbers (s .1 .1 .1) l-numbers, (x3, tt)))), (v-rows ∷ [], (v-cells ∷ [], (v-numbers ∷ [], (u3 ∷ [], tt))))), tt)
 
@@ -347,7 +347,7 @@ module _ {M : Type 1} (𝓤 : URA M) (H : Heap 𝓤) (A : Atoms 𝓤) (W : Given
         asked : (s : Loan × (Loan × (Loan))) → (x3 ≤ length l-rows) × (x3 ≤ rowRoom (length l-cells) (length l-numbers)) → ent 𝓤 (onEntry 𝓤 H A put-rows.signature ((to-put-rows s) .0 .0) ((to-put-rows s) .0 .1) ((to-put-rows s) .0 .3) ((to-put-rows s) .0 .4)) (Of-put-rows 𝓤 H A mem run .pre (to-put-rows s))
         asked s pre = qed W (raw (onEntry 𝓤 H A put-rows.signature ((to-put-rows s) .0 .0) ((to-put-rows s) .0 .1) ((to-put-rows s) .0 .3) ((to-put-rows s) .0 .4)) ∷ []) ∵ says ! pre $ done !
 
-    abbrev Gave-put-rows : Val → (Unit {0} × (List Row × Unit {0})) → SProp 𝓤
+    abbrev Gave-put-rows : Val → (Unit {0} × (List FaultRow × Unit {0})) → SProp 𝓤
     Gave-put-rows w x = guard 𝓤 (((x .1 .0) ≡ painted (rowAt l-cells l-numbers) x3 l-rows) × (w ≡ vunit) × (length (x .1 .0) ≡ length l-rows)) (sem 𝓤 H A (All l-words l-reals (x .1 .0) l-report l-cells l-numbers))
 
     put-rows-gives : (s : Loan × (Loan × (Loan))) (w : Val) → ent 𝓤 (sep 𝓤 (Of-put-rows 𝓤 H A mem run .post (to-put-rows s) w) (sem 𝓤 H A (Kept-put-rows s))) (H .⇛ (ex 𝓤 (Gave-put-rows w)))
@@ -358,7 +358,7 @@ module _ {M : Type 1} (𝓤 : URA M) (H : Heap 𝓤) (A : Atoms 𝓤) (W : Given
         move ! (4 ∷ []) $ fsplit ! $ move ! (1 ∷ []) $ fsplit ! $ move ! (1 ∷ []) $ fsplit ! $ move ! (1 ∷ []) $ fsplit ! $ move ! (1 ∷ []) $ fsplit ! $ move ! (1 ∷ []) $ fsplit ! $ move ! (9 ∷ 10 ∷ 3 ∷ []) $ use3 W (later (‵ (Had-rows (ws .0)))) (L.home R κ-rows q-rows γ-rows b-rows o-rows (v-rows ∷ []) 𝓤 H A W (s .0 .0) (s .0 .1) l-rows (ws .0) long0) $ await ! tt $ move ! (8 ∷ 1 ∷ []) $ use2 W (later (‵ (Had-cells l-cells))) (L.shares-home u32 κ-cells q-cells γ-cells b-cells o-cells (v-cells ∷ []) 𝓤 H A W (s .1 .0 .0) l-cells) $ await ! tt $ move ! (7 ∷ 2 ∷ []) $ use2 W (later (‵ (Had-numbers l-numbers))) (L.shares-home f64 κ-numbers q-numbers γ-numbers b-numbers o-numbers (v-numbers ∷ []) 𝓤 H A W (s .1 .1 .0) l-numbers) $ await ! tt $ at-once ! $ show ! (Gave-put-rows w) (r, (ws .0, tt)) $ holds ! (e, ap only is-unit, long0) $ move ! (1 ∷ 0 ∷ []) $ fjoin ! $ move ! (2 ∷ 0 ∷ []) $ fjoin ! $ move ! (1 ∷ 0 ∷ []) $ fjoin ! $ move ! (1 ∷ 0 ∷ []) $ fjoin ! $ move ! (1 ∷ 0 ∷ []) $ fjoin ! $ move ! (1 ∷ 0 ∷ []) $ fjoin ! $ done !)))))
 
   -- ---- take_rows
-  module _ (l-words : List ℕ) (l-reals : List Float) (l-rows : List Row) (l-report : List ℕ) (l-cells : List ℕ) (l-numbers : List Float) (x3 : ℕ) (u3 : Val) (is3 : Is usize x3 (u3 ∷ [])) where
+  module _ (l-words : List ℕ) (l-reals : List Float) (l-rows : List FaultRow) (l-report : List ℕ) (l-cells : List ℕ) (l-numbers : List Float) (x3 : ℕ) (u3 : Val) (is3 : Is usize x3 (u3 ∷ [])) where
     abbrev to-take-rows : Loan × (Loan × (Loan)) → Of-take-rows 𝓤 H A mem run .Ghost
     to-take-rows s = (((s .0 .0 ∷ [], (s .1 .0 .0 ∷ [], (s .1 .1 .0 ∷ [], tt))), (fullShare, (fullShare, (fullShare, tt))), tt, (at-rows (s .0 .1) l-rows, (at-cells (s .1 .0 .1) l-cells, (at-numbers (s .1 .1 .1) l-numbers, (x3, tt)))), (v-rows ∷ [], (v-cells ∷ [], (v-numbers ∷ [], (u3 ∷ [], tt))))), tt)
 
@@ -388,7 +388,7 @@ module _ {M : Type 1} (𝓤 : URA M) (H : Heap 𝓤) (A : Atoms 𝓤) (W : Given
         move ! (5 ∷ []) $ fsplit ! $ move ! (1 ∷ []) $ fsplit ! $ move ! (1 ∷ []) $ fsplit ! $ move ! (1 ∷ []) $ fsplit ! $ move ! (1 ∷ []) $ fsplit ! $ move ! (1 ∷ []) $ fsplit ! $ move ! (9 ∷ 3 ∷ []) $ use2 W (later (‵ (Had-rows l-rows))) (L.shares-home R κ-rows q-rows γ-rows b-rows o-rows (v-rows ∷ []) 𝓤 H A W (s .0 .0) l-rows) $ await ! tt $ move ! (8 ∷ 10 ∷ 1 ∷ []) $ use3 W (later (‵ (Had-cells (ws .1 .0)))) (L.home u32 κ-cells q-cells γ-cells b-cells o-cells (v-cells ∷ []) 𝓤 H A W (s .1 .0 .0) (s .1 .0 .1) l-cells (ws .1 .0) long1) $ await ! tt $ move ! (7 ∷ 8 ∷ 2 ∷ []) $ use3 W (later (‵ (Had-numbers (ws .1 .1 .0)))) (L.home f64 κ-numbers q-numbers γ-numbers b-numbers o-numbers (v-numbers ∷ []) 𝓤 H A W (s .1 .1 .0) (s .1 .1 .1) l-numbers (ws .1 .1 .0) long2) $ await ! tt $ at-once ! $ show ! (Gave-take-rows w) (r, (ws .1 .0, (ws .1 .1 .0, tt))) $ holds ! (e, ap only is-unit, long1, long2) $ move ! (1 ∷ 0 ∷ []) $ fjoin ! $ move ! (2 ∷ 0 ∷ []) $ fjoin ! $ move ! (1 ∷ 0 ∷ []) $ fjoin ! $ move ! (1 ∷ 0 ∷ []) $ fjoin ! $ move ! (1 ∷ 0 ∷ []) $ fjoin ! $ move ! (1 ∷ 0 ∷ []) $ fjoin ! $ done !))))))
 
   -- ---- finish
-  module _ (l-words : List ℕ) (l-reals : List Float) (l-rows : List Row) (l-report : List ℕ) (l-cells : List ℕ) (l-numbers : List Float) (x5 : Findings) (u5 : Val) (is5 : Is FD.the-row x5 (u5 ∷ [])) where
+  module _ (l-words : List ℕ) (l-reals : List Float) (l-rows : List FaultRow) (l-report : List ℕ) (l-cells : List ℕ) (l-numbers : List Float) (x5 : Findings) (u5 : Val) (is5 : Is FD.the-row x5 (u5 ∷ [])) where
     abbrev to-finish : Loan × (Loan × (Loan × (Loan × (Loan)))) → Of-finish 𝓤 H A mem run .Ghost
     to-finish s = (((κ-file, (s .0 .0 ∷ [], (s .1 .0 .0 ∷ [], (s .1 .1 .0 .0 ∷ [], (s .1 .1 .1 .0 .0 ∷ [], (s .1 .1 .1 .1 .0 ∷ [], tt)))))), (q-file, (fullShare, (fullShare, (fullShare, (fullShare, (fullShare, tt)))))), tt, (file, (at-words (s .0 .1) l-words, (at-reals (s .1 .0 .1) l-reals, (at-cells (s .1 .1 .0 .1) l-cells, (at-numbers (s .1 .1 .1 .0 .1) l-numbers, (x5, (at-report (s .1 .1 .1 .1 .1) l-report, tt))))))), (v-file ∷ [], (v-words ∷ [], (v-reals ∷ [], (v-cells ∷ [], (v-numbers ∷ [], (u5 ∷ [], (v-report ∷ [], tt)))))))), tt)
 
@@ -420,7 +420,7 @@ module _ {M : Type 1} (𝓤 : URA M) (H : Heap 𝓤) (A : Atoms 𝓤) (W : Given
         move ! (10 ∷ []) $ fsplit ! $ move ! (1 ∷ []) $ fsplit ! $ move ! (1 ∷ []) $ fsplit ! $ move ! (1 ∷ []) $ fsplit ! $ move ! (1 ∷ []) $ fsplit ! $ move ! (1 ∷ []) $ fsplit ! $ move ! (6 ∷ 12 ∷ []) $ fjoin ! $ move ! (11 ∷ 15 ∷ 6 ∷ []) $ use3 W (later (‵ (Had-words (ws .1 .0)))) (L.home u32 κ-words q-words γ-words b-words o-words (v-words ∷ []) 𝓤 H A W (s .0 .0) (s .0 .1) l-words (ws .1 .0) long1) $ await ! tt $ move ! (10 ∷ 13 ∷ 6 ∷ []) $ use3 W (later (‵ (Had-reals (ws .1 .1 .0)))) (L.home f64 κ-reals q-reals γ-reals b-reals o-reals (v-reals ∷ []) 𝓤 H A W (s .1 .0 .0) (s .1 .0 .1) l-reals (ws .1 .1 .0) long2) $ await ! tt $ move ! (9 ∷ 3 ∷ []) $ use2 W (later (‵ (Had-cells l-cells))) (L.shares-home u32 κ-cells q-cells γ-cells b-cells o-cells (v-cells ∷ []) 𝓤 H A W (s .1 .1 .0 .0) l-cells) $ await ! tt $ move ! (8 ∷ 4 ∷ []) $ use2 W (later (‵ (Had-numbers l-numbers))) (L.shares-home f64 κ-numbers q-numbers γ-numbers b-numbers o-numbers (v-numbers ∷ []) 𝓤 H A W (s .1 .1 .1 .0 .0) l-numbers) $ await ! tt $ move ! (7 ∷ 9 ∷ 5 ∷ []) $ use3 W (later (‵ (Had-report (ws .1 .1 .1 .1 .1 .1 .0)))) (L.home u8 κ-report q-report γ-report b-report o-report (v-report ∷ []) 𝓤 H A W (s .1 .1 .1 .1 .0) (s .1 .1 .1 .1 .1) l-report (ws .1 .1 .1 .1 .1 .1 .0) long6) $ await ! tt $ at-once ! $ show ! (Gave-finish w) (r, (ws .1 .0, (ws .1 .1 .0, (ws .1 .1 .1 .1 .1 .1 .0, tt)))) $ holds ! (e, long1, long2, long6) $ move ! (7 ∷ []) $ frame ! $ move ! (2 ∷ 1 ∷ []) $ fjoin ! $ move ! (1 ∷ 0 ∷ []) $ fjoin ! $ move ! (4 ∷ 0 ∷ []) $ fjoin ! $ move ! (1 ∷ 0 ∷ []) $ fjoin ! $ move ! (1 ∷ 0 ∷ []) $ fjoin ! $ move ! (1 ∷ 0 ∷ []) $ fjoin ! $ done !))))))
 
   -- ---- wipe_rows
-  module _ (l-words : List ℕ) (l-reals : List Float) (l-rows : List Row) (l-report : List ℕ) (l-cells : List ℕ) (l-numbers : List Float) (x1 : ℕ) (u1 : Val) (is1 : Is usize x1 (u1 ∷ [])) where
+  module _ (l-words : List ℕ) (l-reals : List Float) (l-rows : List FaultRow) (l-report : List ℕ) (l-cells : List ℕ) (l-numbers : List Float) (x1 : ℕ) (u1 : Val) (is1 : Is usize x1 (u1 ∷ [])) where
     abbrev to-wipe-rows : Loan → Of-wipe-rows 𝓤 H A mem run .Ghost
     to-wipe-rows s = (((s .0 ∷ [], tt), (fullShare, tt), tt, (at-rows (s .1) l-rows, (x1, tt)), (v-rows ∷ [], (u1 ∷ [], tt))), tt)
 
@@ -437,7 +437,7 @@ module _ {M : Type 1} (𝓤 : URA M) (H : Heap 𝓤) (A : Atoms 𝓤) (W : Given
         asked : (s : Loan) → x1 ≤ length l-rows → ent 𝓤 (onEntry 𝓤 H A wipe-rows.signature ((to-wipe-rows s) .0 .0) ((to-wipe-rows s) .0 .1) ((to-wipe-rows s) .0 .3) ((to-wipe-rows s) .0 .4)) (Of-wipe-rows 𝓤 H A mem run .pre (to-wipe-rows s))
         asked s pre = qed W (raw (onEntry 𝓤 H A wipe-rows.signature ((to-wipe-rows s) .0 .0) ((to-wipe-rows s) .0 .1) ((to-wipe-rows s) .0 .3) ((to-wipe-rows s) .0 .4)) ∷ []) ∵ says ! pre $ done !
 
-    abbrev Gave-wipe-rows : Val → (Unit {0} × (List Row × Unit {0})) → SProp 𝓤
+    abbrev Gave-wipe-rows : Val → (Unit {0} × (List FaultRow × Unit {0})) → SProp 𝓤
     Gave-wipe-rows w x = guard 𝓤 (((x .1 .0) ≡ wiped x1 l-rows) × (w ≡ vunit) × (length (x .1 .0) ≡ length l-rows)) (sem 𝓤 H A (All l-words l-reals (x .1 .0) l-report l-cells l-numbers))
 
     wipe-rows-gives : (s : Loan) (w : Val) → ent 𝓤 (sep 𝓤 (Of-wipe-rows 𝓤 H A mem run .post (to-wipe-rows s) w) (sem 𝓤 H A (Kept-wipe-rows s))) (H .⇛ (ex 𝓤 (Gave-wipe-rows w)))
@@ -451,7 +451,7 @@ module _ {M : Type 1} (𝓤 : URA M) (H : Heap 𝓤) (A : Atoms 𝓤) (W : Given
     (κ-file : Lft) (q-file : Share) (file : RefT (List ℕ))
     (κ-words : Lft) (q-words : Share) (b-words o-words : ℕ) (γ-words : GName) (words : List ℕ)
     (κ-reals : Lft) (q-reals : Share) (b-reals o-reals : ℕ) (γ-reals : GName) (reals : List Float)
-    (κ-rows : Lft) (q-rows : Share) (b-rows o-rows : ℕ) (γ-rows : GName) (rows : List Row)
+    (κ-rows : Lft) (q-rows : Share) (b-rows o-rows : ℕ) (γ-rows : GName) (rows : List FaultRow)
     (κ-report : Lft) (q-report : Share) (b-report o-report : ℕ) (γ-report : GName) (report : List ℕ)
     (fits-file : length (file .now) < 2 ^ 64) (fits-words : length words < 2 ^ 64) (fits-reals : length reals < 2 ^ 64) (fits-rows : length rows < 2 ^ 64) (fits-report : length report < 2 ^ 64) where
   abbrev pv-file : Val
@@ -484,14 +484,14 @@ module _ {M : Type 1} (𝓤 : URA M) (H : Heap 𝓤) (A : Atoms 𝓤) (W : Given
   abbrev Entry : SProp 𝓤
   Entry = onEntry 𝓤 H A check.signature (κ-file, (κ-words, (κ-reals, (κ-rows, (κ-report, tt))))) (q-file, (q-words, (q-reals, (q-rows, (q-report, tt))))) a vals
 
-  abbrev Mine : List ℕ → List Float → List Row → List ℕ → Fml
+  abbrev Mine : List ℕ → List Float → List FaultRow → List ℕ → Fml
   Mine l-words l-reals l-rows l-report = (fsep (fsep (ShrSlice (named 0) κ-file u8 .own file (pv-file ∷ [])) (flft κ-file q-file)) (fsep (L.Slot u32 κ-words q-words γ-words b-words o-words (pv-words ∷ []) l-words) (fsep (L.Slot f64 κ-reals q-reals γ-reals b-reals o-reals (pv-reals ∷ []) l-reals) (fsep (L.Slot R κ-rows q-rows γ-rows b-rows o-rows (pv-rows ∷ []) l-rows) (L.Slot u8 κ-report q-report γ-report b-report o-report (pv-report ∷ []) l-report)))))
 
   opened : ent 𝓤 Entry (sem 𝓤 H A (Mine words reals rows report))
   opened =
       qed W ((‵ (flft κ-file q-file) ⊛ ‵ (flft κ-words q-words) ⊛ ‵ (flft κ-reals q-reals) ⊛ ‵ (flft κ-rows q-rows) ⊛ ‵ (flft κ-report q-report) ⊛ ‵ ftrue) ∷ ‵ (owns (ShrSlice (named 0) κ-file u8 ∷ MutSlice (named 1) κ-words u32 ∷ MutSlice (named 2) κ-reals f64 ∷ MutSlice (named 3) κ-rows R ∷ MutSlice (named 4) κ-report u8 ∷ []) a vals) ∷ []) ∵ split ! $ move ! (1 ∷ []) $ split ! $ move ! (1 ∷ []) $ split ! $ move ! (1 ∷ []) $ split ! $ move ! (1 ∷ []) $ split ! $ move ! (1 ∷ []) $ drop ! $ move ! (5 ∷ []) $ fsplit ! $ move ! (1 ∷ []) $ fsplit ! $ move ! (1 ∷ []) $ fsplit ! $ move ! (1 ∷ []) $ fsplit ! $ move ! (1 ∷ []) $ fsplit ! $ move ! (1 ∷ []) $ drop ! $ move ! (4 ∷ 9 ∷ []) $ fjoin ! $ move ! (4 ∷ 8 ∷ []) $ fjoin ! $ move ! (4 ∷ 7 ∷ []) $ fjoin ! $ move ! (4 ∷ 6 ∷ []) $ fjoin ! $ move ! (4 ∷ 5 ∷ []) $ fjoin ! $ move ! (1 ∷ 0 ∷ []) $ fjoin ! $ move ! (1 ∷ 0 ∷ []) $ fjoin ! $ move ! (1 ∷ 0 ∷ []) $ fjoin ! $ move ! (1 ∷ 0 ∷ []) $ fjoin ! $ done !
 
-  exits : (res : Answer) (w : Val) (l-words : List ℕ) (l-reals : List Float) (l-rows : List Row) (l-report : List ℕ) → Outcome (file .now) words l-words reals l-reals rows l-rows report l-report res → length l-words ≡ length words → length l-reals ≡ length reals → length l-rows ≡ length rows → length l-report ≡ length report
+  exits : (res : Answer) (w : Val) (l-words : List ℕ) (l-reals : List Float) (l-rows : List FaultRow) (l-report : List ℕ) → Outcome (file .now) words l-words reals l-reals rows l-rows report l-report res → length l-words ≡ length words → length l-reals ≡ length reals → length l-rows ≡ length rows → length l-report ≡ length report
       → ent 𝓤 (⋆ 𝓤 H A (‵ (Mine l-words l-reals l-rows l-report) ∷ ‵ (E.the-row .own res (w ∷ [])) ∷ [])) (Post w)
   exits res w l-words l-reals l-rows l-report it e-words e-reals e-rows e-report =
       qed W (‵ (Mine l-words l-reals l-rows l-report) ∷ ‵ (E.the-row .own res (w ∷ [])) ∷ []) ∵
@@ -523,7 +523,7 @@ module _ {M : Type 1} (𝓤 : URA M) (H : Heap 𝓤) (A : Atoms 𝓤) (W : Given
         -- put_rows
         use1 W (later (some (λ (s : Loan × (Loan × (Loan))). raw (Of-put-rows 𝓤 H A mem run .pre (to-put-rows 𝓤 H A W mem run κ-file q-file file κ-words q-words b-words o-words γ-words (length words) κ-reals q-reals b-reals o-reals γ-reals (length reals) κ-rows q-rows b-rows o-rows γ-rows (length rows) κ-report q-report b-report o-report γ-report (length report) (s-cells .0 ∷ []) fullShare l6 0 (s-cells .1) 12288 (s-numbers .0 ∷ []) fullShare l7 0 (s-numbers .1) 6144 (x1 .1 .0) (x1 .1 .1 .0) rows report (x1 .1 .1 .1 .0) (x1 .1 .1 .1 .1 .0) (x2 .0) w2 is2 s)) ⊛ ‵ (Kept-put-rows 𝓤 H A W mem run κ-file q-file file κ-words q-words b-words o-words γ-words (length words) κ-reals q-reals b-reals o-reals γ-reals (length reals) κ-rows q-rows b-rows o-rows γ-rows (length rows) κ-report q-report b-report o-report γ-report (length report) (s-cells .0 ∷ []) fullShare l6 0 (s-cells .1) 12288 (s-numbers .0 ∷ []) fullShare l7 0 (s-numbers .1) 6144 (x1 .1 .0) (x1 .1 .1 .0) rows report (x1 .1 .1 .1 .0) (x1 .1 .1 .1 .1 .0) (x2 .0) w2 is2 s)))) (put-rows-asks 𝓤 H A W mem run κ-file q-file file κ-words q-words b-words o-words γ-words (length words) κ-reals q-reals b-reals o-reals γ-reals (length reals) κ-rows q-rows b-rows o-rows γ-rows (length rows) κ-report q-report b-report o-report γ-report (length report) (s-cells .0 ∷ []) fullShare l6 0 (s-cells .1) 12288 (s-numbers .0 ∷ []) fullShare l7 0 (s-numbers .1) 6144 (x1 .1 .0) (x1 .1 .1 .0) rows report (x1 .1 .1 .1 .0) (x1 .1 .1 .1 .1 .0) (x2 .0) w2 is2 (faults-fit (x2 .0) ((x1 .0) .faults) (length rows) (length rows) (length list-cells) _ (length list-numbers) _ f2 ((f1 .0) .fits) refl (f1 .3) (f1 .4))) $ await ! tt $ pick ! (λ s3. split ! $
         calls-at ! fm (Of-put-rows 𝓤 H A mem run) known-put-rows (to-put-rows 𝓤 H A W mem run κ-file q-file file κ-words q-words b-words o-words γ-words (length words) κ-reals q-reals b-reals o-reals γ-reals (length reals) κ-rows q-rows b-rows o-rows γ-rows (length rows) κ-report q-report b-report o-report γ-report (length report) (s-cells .0 ∷ []) fullShare l6 0 (s-cells .1) 12288 (s-numbers .0 ∷ []) fullShare l7 0 (s-numbers .1) 6144 (x1 .1 .0) (x1 .1 .1 .0) rows report (x1 .1 .1 .1 .0) (x1 .1 .1 .1 .1 .0) (x2 .0) w2 is2 s3) (and-then ! (load ! (from ! (stop !)) (look ! 50 refl)) (and-then ! (load ! (from ! (stop !)) (look ! 46 refl)) (and-then ! (load ! (from ! (stop !)) (look ! 42 refl)) (and-then ! (load ! (from ! (stop !)) (look ! 76 refl)) (no-more !))))) (λ w3.
-        use2 W (later (some (λ (x : (Unit {0} × (List Row × Unit {0}))). given (((x .1 .0) ≡ painted (rowAt (x1 .1 .1 .1 .0) (x1 .1 .1 .1 .1 .0)) (x2 .0) rows) × (w3 ≡ vunit) × (length (x .1 .0) ≡ length rows)) (‵ (All 𝓤 H A W mem run κ-file q-file file κ-words q-words b-words o-words γ-words (length words) κ-reals q-reals b-reals o-reals γ-reals (length reals) κ-rows q-rows b-rows o-rows γ-rows (length rows) κ-report q-report b-report o-report γ-report (length report) (s-cells .0 ∷ []) fullShare l6 0 (s-cells .1) 12288 (s-numbers .0 ∷ []) fullShare l7 0 (s-numbers .1) 6144 (x1 .1 .0) (x1 .1 .1 .0) (x .1 .0) report (x1 .1 .1 .1 .0) (x1 .1 .1 .1 .1 .0)))))) (put-rows-gives 𝓤 H A W mem run κ-file q-file file κ-words q-words b-words o-words γ-words (length words) κ-reals q-reals b-reals o-reals γ-reals (length reals) κ-rows q-rows b-rows o-rows γ-rows (length rows) κ-report q-report b-report o-report γ-report (length report) (s-cells .0 ∷ []) fullShare l6 0 (s-cells .1) 12288 (s-numbers .0 ∷ []) fullShare l7 0 (s-numbers .1) 6144 (x1 .1 .0) (x1 .1 .1 .0) rows report (x1 .1 .1 .1 .0) (x1 .1 .1 .1 .1 .0) (x2 .0) w2 is2 s3 w3) $ await ! tt $ pick ! (λ x3. learn ! (λ f3.
+        use2 W (later (some (λ (x : (Unit {0} × (List FaultRow × Unit {0}))). given (((x .1 .0) ≡ painted (rowAt (x1 .1 .1 .1 .0) (x1 .1 .1 .1 .1 .0)) (x2 .0) rows) × (w3 ≡ vunit) × (length (x .1 .0) ≡ length rows)) (‵ (All 𝓤 H A W mem run κ-file q-file file κ-words q-words b-words o-words γ-words (length words) κ-reals q-reals b-reals o-reals γ-reals (length reals) κ-rows q-rows b-rows o-rows γ-rows (length rows) κ-report q-report b-report o-report γ-report (length report) (s-cells .0 ∷ []) fullShare l6 0 (s-cells .1) 12288 (s-numbers .0 ∷ []) fullShare l7 0 (s-numbers .1) 6144 (x1 .1 .0) (x1 .1 .1 .0) (x .1 .0) report (x1 .1 .1 .1 .0) (x1 .1 .1 .1 .1 .0)))))) (put-rows-gives 𝓤 H A W mem run κ-file q-file file κ-words q-words b-words o-words γ-words (length words) κ-reals q-reals b-reals o-reals γ-reals (length reals) κ-rows q-rows b-rows o-rows γ-rows (length rows) κ-report q-report b-report o-report γ-report (length report) (s-cells .0 ∷ []) fullShare l6 0 (s-cells .1) 12288 (s-numbers .0 ∷ []) fullShare l7 0 (s-numbers .1) 6144 (x1 .1 .0) (x1 .1 .1 .0) rows report (x1 .1 .1 .1 .0) (x1 .1 .1 .1 .1 .0) (x2 .0) w2 is2 s3 w3) $ await ! tt $ pick ! (λ x3. learn ! (λ f3.
         land ! (from ! (stop !)) (init ! 53 refl (subst (λ (u : Val). T (hasTy tyUnit u) × WT u) (sym (f3 .1)) (tt, tt))) $
         assigns ! (addr ! (from ! (fld ! refl (hop ! (look-in ! 83 (sub ! 0 refl (whole !))) (stop !))))) (from ! (stop !)) (init ! 39 refl (tt, tt)) $ assigns ! (agg ! (and-then ! (load ! (from ! (stop !)) (look ! 39 refl)) (and-then ! (load ! (from ! (fld ! refl (stop !))) (look-in ! 83 (sub ! 1 refl (whole !)))) (no-more !)))) (from ! (stop !)) (init ! 37 refl (tt, (tt, (record { fits = fits-rows }, tt)))) $ assigns ! (addr ! (from ! (stop !))) (from ! (stop !)) (init ! 35 refl (tt, tt)) $ assigns ! (agg ! (and-then ! (load ! (from ! (stop !)) (look ! 35 refl)) (and-then ! (big-lit ! (record { fits = lit< tt })) (no-more !)))) (from ! (stop !)) (init ! 33 refl (tt, (tt, (record { fits = lit< tt }, tt)))) $ assigns ! (addr ! (from ! (stop !))) (from ! (stop !)) (init ! 31 refl (tt, tt)) $ assigns ! (agg ! (and-then ! (load ! (from ! (stop !)) (look ! 31 refl)) (and-then ! (big-lit ! (record { fits = lit< tt })) (no-more !)))) (from ! (stop !)) (init ! 29 refl (tt, (tt, (record { fits = lit< tt }, tt)))) $
         -- take_rows
@@ -546,7 +546,7 @@ module _ {M : Type 1} (𝓤 : URA M) (H : Heap 𝓤) (A : Atoms 𝓤) (W : Given
         -- wipe_rows
         use1 W (later (some (λ (s : Loan). raw (Of-wipe-rows 𝓤 H A mem run .pre (to-wipe-rows 𝓤 H A W mem run κ-file q-file file κ-words q-words b-words o-words γ-words (length words) κ-reals q-reals b-reals o-reals γ-reals (length reals) κ-rows q-rows b-rows o-rows γ-rows (length rows) κ-report q-report b-report o-report γ-report (length report) (s-cells .0 ∷ []) fullShare l6 0 (s-cells .1) 12288 (s-numbers .0 ∷ []) fullShare l7 0 (s-numbers .1) 6144 (x5 .1 .0) (x5 .1 .1 .0) (x3 .1 .0) (x5 .1 .1 .1 .0) (x4 .1 .0) (x4 .1 .1 .0) (x6 .0) w6 is6 s)) ⊛ ‵ (Kept-wipe-rows 𝓤 H A W mem run κ-file q-file file κ-words q-words b-words o-words γ-words (length words) κ-reals q-reals b-reals o-reals γ-reals (length reals) κ-rows q-rows b-rows o-rows γ-rows (length rows) κ-report q-report b-report o-report γ-report (length report) (s-cells .0 ∷ []) fullShare l6 0 (s-cells .1) 12288 (s-numbers .0 ∷ []) fullShare l7 0 (s-numbers .1) 6144 (x5 .1 .0) (x5 .1 .1 .0) (x3 .1 .0) (x5 .1 .1 .1 .0) (x4 .1 .0) (x4 .1 .1 .0) (x6 .0) w6 is6 s)))) (wipe-rows-asks 𝓤 H A W mem run κ-file q-file file κ-words q-words b-words o-words γ-words (length words) κ-reals q-reals b-reals o-reals γ-reals (length reals) κ-rows q-rows b-rows o-rows γ-rows (length rows) κ-report q-report b-report o-report γ-report (length report) (s-cells .0 ∷ []) fullShare l6 0 (s-cells .1) 12288 (s-numbers .0 ∷ []) fullShare l7 0 (s-numbers .1) 6144 (x5 .1 .0) (x5 .1 .1 .0) (x3 .1 .0) (x5 .1 .1 .1 .0) (x4 .1 .0) (x4 .1 .1 .0) (x6 .0) w6 is6 (omega (arith, f6, wipe-fits (x5 .0) (length rows), (f3 .2)))) $ await ! tt $ pick ! (λ s7. split ! $
         calls-at ! fm (Of-wipe-rows 𝓤 H A mem run) known-wipe-rows (to-wipe-rows 𝓤 H A W mem run κ-file q-file file κ-words q-words b-words o-words γ-words (length words) κ-reals q-reals b-reals o-reals γ-reals (length reals) κ-rows q-rows b-rows o-rows γ-rows (length rows) κ-report q-report b-report o-report γ-report (length report) (s-cells .0 ∷ []) fullShare l6 0 (s-cells .1) 12288 (s-numbers .0 ∷ []) fullShare l7 0 (s-numbers .1) 6144 (x5 .1 .0) (x5 .1 .1 .0) (x3 .1 .0) (x5 .1 .1 .1 .0) (x4 .1 .0) (x4 .1 .1 .0) (x6 .0) w6 is6 s7) (and-then ! (load ! (from ! (stop !)) (look ! 6 refl)) (and-then ! (load ! (from ! (stop !)) (look ! 56 refl)) (no-more !))) (λ w7.
-        use2 W (later (some (λ (x : (Unit {0} × (List Row × Unit {0}))). given (((x .1 .0) ≡ wiped (x6 .0) (x3 .1 .0)) × (w7 ≡ vunit) × (length (x .1 .0) ≡ length (x3 .1 .0))) (‵ (All 𝓤 H A W mem run κ-file q-file file κ-words q-words b-words o-words γ-words (length words) κ-reals q-reals b-reals o-reals γ-reals (length reals) κ-rows q-rows b-rows o-rows γ-rows (length rows) κ-report q-report b-report o-report γ-report (length report) (s-cells .0 ∷ []) fullShare l6 0 (s-cells .1) 12288 (s-numbers .0 ∷ []) fullShare l7 0 (s-numbers .1) 6144 (x5 .1 .0) (x5 .1 .1 .0) (x .1 .0) (x5 .1 .1 .1 .0) (x4 .1 .0) (x4 .1 .1 .0)))))) (wipe-rows-gives 𝓤 H A W mem run κ-file q-file file κ-words q-words b-words o-words γ-words (length words) κ-reals q-reals b-reals o-reals γ-reals (length reals) κ-rows q-rows b-rows o-rows γ-rows (length rows) κ-report q-report b-report o-report γ-report (length report) (s-cells .0 ∷ []) fullShare l6 0 (s-cells .1) 12288 (s-numbers .0 ∷ []) fullShare l7 0 (s-numbers .1) 6144 (x5 .1 .0) (x5 .1 .1 .0) (x3 .1 .0) (x5 .1 .1 .1 .0) (x4 .1 .0) (x4 .1 .1 .0) (x6 .0) w6 is6 s7 w7) $ await ! tt $ pick ! (λ x7. learn ! (λ f7.
+        use2 W (later (some (λ (x : (Unit {0} × (List FaultRow × Unit {0}))). given (((x .1 .0) ≡ wiped (x6 .0) (x3 .1 .0)) × (w7 ≡ vunit) × (length (x .1 .0) ≡ length (x3 .1 .0))) (‵ (All 𝓤 H A W mem run κ-file q-file file κ-words q-words b-words o-words γ-words (length words) κ-reals q-reals b-reals o-reals γ-reals (length reals) κ-rows q-rows b-rows o-rows γ-rows (length rows) κ-report q-report b-report o-report γ-report (length report) (s-cells .0 ∷ []) fullShare l6 0 (s-cells .1) 12288 (s-numbers .0 ∷ []) fullShare l7 0 (s-numbers .1) 6144 (x5 .1 .0) (x5 .1 .1 .0) (x .1 .0) (x5 .1 .1 .1 .0) (x4 .1 .0) (x4 .1 .1 .0)))))) (wipe-rows-gives 𝓤 H A W mem run κ-file q-file file κ-words q-words b-words o-words γ-words (length words) κ-reals q-reals b-reals o-reals γ-reals (length reals) κ-rows q-rows b-rows o-rows γ-rows (length rows) κ-report q-report b-report o-report γ-report (length report) (s-cells .0 ∷ []) fullShare l6 0 (s-cells .1) 12288 (s-numbers .0 ∷ []) fullShare l7 0 (s-numbers .1) 6144 (x5 .1 .0) (x5 .1 .1 .0) (x3 .1 .0) (x5 .1 .1 .1 .0) (x4 .1 .0) (x4 .1 .1 .0) (x6 .0) w6 is6 s7 w7) $ await ! tt $ pick ! (λ x7. learn ! (λ f7.
         land ! (from ! (stop !)) (store ! 53 refl (subst (λ (u : Val). T (hasTy tyUnit u) × WT u) (sym (f7 .1)) (tt, tt))) $
         assigns ! (of-opd ! (load ! (from ! (stop !)) (look ! 73 refl))) (from ! (stop !)) (init ! 91 refl (EL.lawful E.the-type E′.the-laws 𝓤 H A W tt .typed (x5 .0) (w5 ∷ []) is5 .0)) $ fsplit ! $ move ! (1 ∷ []) $ fsplit ! $ move ! (1 ∷ []) $ fsplit ! $ move ! (1 ∷ []) $ fsplit ! $ move ! (1 ∷ []) $ fsplit ! $ move ! (1 ∷ []) $ fsplit ! $ move ! (3 ∷ 2 ∷ []) $ fjoin ! $ move ! (3 ∷ 0 ∷ []) $ fjoin ! $ move ! (3 ∷ 0 ∷ []) $ fjoin ! $ move ! (3 ∷ 0 ∷ []) $ fjoin ! $ move ! (1 ∷ 4 ∷ []) $ use2 W (later (‵ (froom (tyArray (tyInt w32) 12288) l6 0))) (Loc.array-home u32 tt 𝓤 H A W 12288 l6 (s-cells .0) (s-cells .1) _ _ (x4 .1 .0) ((f4 .2) ∙ (f1 .3) ∙ length-replicate 12288 first-cells)) $ await ! tt $ move ! (2 ∷ 3 ∷ []) $ use2 W (later (‵ (froom (tyArray (tyFloat binary64) 6144) l7 0))) (Loc.array-home f64 tt 𝓤 H A W 6144 l7 (s-numbers .0) (s-numbers .1) _ _ (x4 .1 .1 .0) ((f4 .3) ∙ (f1 .4) ∙ length-replicate 6144 first-numbers)) $ await ! tt $
         returns ! (look ! 91 refl) $ forget ! 3 refl $ forget ! 5 refl $ forget ! 7 refl $ forget ! 9 refl $ forget ! 11 refl $ forget ! 13 refl $ forget ! 15 refl $ forget ! 17 refl $ forget ! 19 refl $ forget ! 21 refl $ forget ! 23 refl $ forget ! 25 refl $ forget ! 27 refl $ forget ! 29 refl $ forget ! 31 refl $ forget ! 33 refl $ forget ! 35 refl $ forget ! 37 refl $ forget ! 39 refl $ forget ! 41 refl $ forget ! 43 refl $ forget ! 45 refl $ forget ! 47 refl $ forget ! 49 refl $ forget ! 51 refl $ forget ! 53 refl $ forget ! 55 refl $ forget ! 57 refl $ forget ! 59 refl $ forget ! 61 refl $ forget ! 63 refl $ forget ! 65 refl $ forget ! 67 refl $ forget ! 69 refl $ forget ! 71 refl $ forget ! 73 refl $ forget ! 75 refl $ forget ! 77 refl $ forget ! 81 refl $ forget ! 83 refl $ forget ! 85 refl $ forget ! 87 refl $ forget ! 89 refl $ forget ! 91 refl $

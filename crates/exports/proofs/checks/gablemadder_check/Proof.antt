@@ -39,7 +39,7 @@ use denote.Triple.Spec.{Meets, tripleOf}
 use denote.Triple.Statement.{Contract, Triple}
 use denote.Triple.Table.{entered, cited}
 use denote.Triple.Walked.{says, Stays, stay-slice, stay-none-slice, walkOf, Walks, ends-at, walked, goes-slice, goes-none-slice, walk-meets}
-use Rattle.fault_row.specs.declared.row.Row.{Row}
+use Rattle.fault_row.specs.declared.row.FaultRow.{FaultRow}
 use Rattle.dfm_core.specs.declared.answer.Answer.{Answer}
 use mathlib.Core.Bool.{cond}
 use Rattle.dfm_core.specs.Answer.{numberOf, lengthOf, isAccepted}
@@ -50,7 +50,7 @@ use denote.Ref.{MutRef, ptr-vals, mut-tells}
 use denote.Triple.Walked.{stay-ref, goes-ref}
 use mir.Val.{vptr}
 use Rattle.exports.proofs.LentRef as LR
-use Rattle.fault_row.proofs.row.Row as T
+use Rattle.fault_row.proofs.row.FaultRow as T
 use Rattle.dfm_core.proofs.answer.Answer as E
 use Rattle.dfm_core.proofs.answer.Answer.Laws as E′
 use Rattle.dfm.proofs.check.check as check
@@ -73,7 +73,7 @@ abbrev stayed : Stays (gablemadder-check.ended .signature .params) (gablemadder-
 stayed = (stay-none-slice (0 ∷ []) tt (plain (λ _. u8)) yes, (stay-slice (1 ∷ []) tt (plain (λ _. u32)), (stay-slice (2 ∷ []) tt (plain (λ _. f64)), (stay-slice (3 ∷ []) tt (plain (λ _. R)), (stay-slice (4 ∷ []) tt (plain (λ _. u8)), (stay-ref (5 ∷ []) tt (plain (λ _. usize)), tt))))))
 
 abbrev Arg : Type 0
-Arg = (RefT (List ℕ) × (RefT (List ℕ) × (RefT (List Float) × (RefT (List Row) × (RefT (List ℕ) × (RefT ℕ × Unit {0}))))))
+Arg = (RefT (List ℕ) × (RefT (List ℕ) × (RefT (List Float) × (RefT (List FaultRow) × (RefT (List ℕ) × (RefT ℕ × Unit {0}))))))
 
 -- the contracts that the proof cites
 module _ {M : Type 1} (𝓤 : URA M) (H : Heap 𝓤) (A : Atoms 𝓤) (mem : Memory → SProp 𝓤) (run : Routine → Fun 𝓤) where
@@ -136,16 +136,16 @@ module _ {M : Type 1} (𝓤 : URA M) (H : Heap 𝓤) (A : Atoms 𝓤) (W : Given
   abbrev v-rows : Val
   v-rows = sliceVal (b-rows, o-rows) m-rows
 
-  abbrev at-rows : GName → List Row → RefT (List Row)
+  abbrev at-rows : GName → List FaultRow → RefT (List FaultRow)
   at-rows γ l = record { ptr = (b-rows, o-rows); name = γ; now = l }
 
-  abbrev Had-rows : List Row → Fml
+  abbrev Had-rows : List FaultRow → Fml
   Had-rows l = L.Slot R κ-rows q-rows γ-rows b-rows o-rows (v-rows ∷ []) l
 
-  abbrev Out-rows : Loan → List Row → Fml
+  abbrev Out-rows : Loan → List FaultRow → Fml
   Out-rows s l = L.Out R κ-rows q-rows γ-rows b-rows o-rows (v-rows ∷ []) (s .0) (s .1) l
 
-  abbrev Shr-rows : Loan → List Row → Fml
+  abbrev Shr-rows : Loan → List FaultRow → Fml
   Shr-rows s l = L.Shared R κ-rows q-rows γ-rows b-rows o-rows (v-rows ∷ []) (s .0) l
 
   abbrev v-report : Val
@@ -175,11 +175,11 @@ module _ {M : Type 1} (𝓤 : URA M) (H : Heap 𝓤) (A : Atoms 𝓤) (W : Given
   abbrev Out-written : Loan → ℕ → Fml
   Out-written s l = LR.Out usize κ-written q-written γ-written b-written o-written (s .0) (s .1) l
 
-  abbrev All : List ℕ → List Float → List Row → List ℕ → ℕ → Fml
+  abbrev All : List ℕ → List Float → List FaultRow → List ℕ → ℕ → Fml
   All l-words l-reals l-rows l-report l-written = (fsep Had-file (fsep (Had-words l-words) (fsep (Had-reals l-reals) (fsep (Had-rows l-rows) (fsep (Had-report l-report) (Had-written l-written))))))
 
   -- ---- check
-  module _ (l-words : List ℕ) (l-reals : List Float) (l-rows : List Row) (l-report : List ℕ) (l-written : ℕ) where
+  module _ (l-words : List ℕ) (l-reals : List Float) (l-rows : List FaultRow) (l-report : List ℕ) (l-written : ℕ) where
     abbrev to-check : Loan × (Loan × (Loan × (Loan))) → Of-check 𝓤 H A mem run .Ghost
     to-check s = (((κ-file, (s .0 .0 ∷ [], (s .1 .0 .0 ∷ [], (s .1 .1 .0 .0 ∷ [], (s .1 .1 .1 .0 ∷ [], tt))))), (q-file, (fullShare, (fullShare, (fullShare, (fullShare, tt))))), tt, (file, (at-words (s .0 .1) l-words, (at-reals (s .1 .0 .1) l-reals, (at-rows (s .1 .1 .0 .1) l-rows, (at-report (s .1 .1 .1 .1) l-report, tt))))), (v-file ∷ [], (v-words ∷ [], (v-reals ∷ [], (v-rows ∷ [], (v-report ∷ [], tt)))))), tt)
 
@@ -199,7 +199,7 @@ module _ {M : Type 1} (𝓤 : URA M) (H : Heap 𝓤) (A : Atoms 𝓤) (W : Given
         asked : (s : Loan × (Loan × (Loan × (Loan)))) → ent 𝓤 (onEntry 𝓤 H A check.signature ((to-check s) .0 .0) ((to-check s) .0 .1) ((to-check s) .0 .3) ((to-check s) .0 .4)) (Of-check 𝓤 H A mem run .pre (to-check s))
         asked s = qed W (raw (onEntry 𝓤 H A check.signature ((to-check s) .0 .0) ((to-check s) .0 .1) ((to-check s) .0 .3) ((to-check s) .0 .4)) ∷ []) ∵ frame ! $ done !
 
-    abbrev Gave-check : Val → (Answer × (List ℕ × (List Float × (List Row × (List ℕ × Unit {0}))))) → SProp 𝓤
+    abbrev Gave-check : Val → (Answer × (List ℕ × (List Float × (List FaultRow × (List ℕ × Unit {0}))))) → SProp 𝓤
     Gave-check w x = guard 𝓤 ((Outcome (file .now) l-words (x .1 .0) l-reals (x .1 .1 .0) l-rows (x .1 .1 .1 .0) l-report (x .1 .1 .1 .1 .0) (x .0)) × (length (x .1 .0) ≡ length l-words) × (length (x .1 .1 .0) ≡ length l-reals) × (length (x .1 .1 .1 .0) ≡ length l-rows) × (length (x .1 .1 .1 .1 .0) ≡ length l-report)) (sep 𝓤 (sem 𝓤 H A (E.the-row .own (x .0) (w ∷ []))) (sem 𝓤 H A (All (x .1 .0) (x .1 .1 .0) (x .1 .1 .1 .0) (x .1 .1 .1 .1 .0) l-written)))
 
     check-gives : (s : Loan × (Loan × (Loan × (Loan)))) (w : Val) → ent 𝓤 (sep 𝓤 (Of-check 𝓤 H A mem run .post (to-check s) w) (sem 𝓤 H A (Kept-check s))) (H .⇛ (ex 𝓤 (Gave-check w)))
@@ -210,7 +210,7 @@ module _ {M : Type 1} (𝓤 : URA M) (H : Heap 𝓤) (A : Atoms 𝓤) (W : Given
         move ! (10 ∷ []) $ fsplit ! $ move ! (1 ∷ []) $ fsplit ! $ move ! (1 ∷ []) $ fsplit ! $ move ! (1 ∷ []) $ fsplit ! $ move ! (1 ∷ []) $ fsplit ! $ move ! (5 ∷ 10 ∷ []) $ fjoin ! $ move ! (9 ∷ 14 ∷ 5 ∷ []) $ use3 W (later (‵ (Had-words (ws .1 .0)))) (L.home u32 κ-words q-words γ-words b-words o-words (v-words ∷ []) 𝓤 H A W (s .0 .0) (s .0 .1) l-words (ws .1 .0) long1) $ await ! tt $ move ! (8 ∷ 12 ∷ 5 ∷ []) $ use3 W (later (‵ (Had-reals (ws .1 .1 .0)))) (L.home f64 κ-reals q-reals γ-reals b-reals o-reals (v-reals ∷ []) 𝓤 H A W (s .1 .0 .0) (s .1 .0 .1) l-reals (ws .1 .1 .0) long2) $ await ! tt $ move ! (7 ∷ 10 ∷ 5 ∷ []) $ use3 W (later (‵ (Had-rows (ws .1 .1 .1 .0)))) (L.home R κ-rows q-rows γ-rows b-rows o-rows (v-rows ∷ []) 𝓤 H A W (s .1 .1 .0 .0) (s .1 .1 .0 .1) l-rows (ws .1 .1 .1 .0) long3) $ await ! tt $ move ! (6 ∷ 8 ∷ 4 ∷ []) $ use3 W (later (‵ (Had-report (ws .1 .1 .1 .1 .0)))) (L.home u8 κ-report q-report γ-report b-report o-report (v-report ∷ []) 𝓤 H A W (s .1 .1 .1 .0) (s .1 .1 .1 .1) l-report (ws .1 .1 .1 .1 .0) long4) $ await ! tt $ at-once ! $ show ! (Gave-check w) (r, (ws .1 .0, (ws .1 .1 .0, (ws .1 .1 .1 .0, (ws .1 .1 .1 .1 .0, tt))))) $ holds ! (e, long1, long2, long3, long4) $ move ! (6 ∷ []) $ frame ! $ move ! (0 ∷ 5 ∷ []) $ fjoin ! $ move ! (1 ∷ 0 ∷ []) $ fjoin ! $ move ! (1 ∷ 0 ∷ []) $ fjoin ! $ move ! (1 ∷ 0 ∷ []) $ fjoin ! $ move ! (1 ∷ 0 ∷ []) $ fjoin ! $ done !)))))))
 
   -- ---- tell
-  module _ (l-words : List ℕ) (l-reals : List Float) (l-rows : List Row) (l-report : List ℕ) (l-written : ℕ) (x0 : Answer) (u0 : Val) (is0 : Is E.the-row x0 (u0 ∷ [])) where
+  module _ (l-words : List ℕ) (l-reals : List Float) (l-rows : List FaultRow) (l-report : List ℕ) (l-written : ℕ) (x0 : Answer) (u0 : Val) (is0 : Is E.the-row x0 (u0 ∷ [])) where
     abbrev to-tell : Loan → Of-tell 𝓤 H A mem run .Ghost
     to-tell s = (((s .0 ∷ [], tt), (fullShare, tt), tt, (x0, (at-written (s .1) l-written, tt)), (u0 ∷ [], (v-written ∷ [], tt))), tt)
 
@@ -241,7 +241,7 @@ module _ {M : Type 1} (𝓤 : URA M) (H : Heap 𝓤) (A : Atoms 𝓤) (W : Given
     (κ-file : Lft) (q-file : Share) (file : RefT (List ℕ))
     (κ-words : Lft) (q-words : Share) (b-words o-words : ℕ) (γ-words : GName) (words : List ℕ)
     (κ-reals : Lft) (q-reals : Share) (b-reals o-reals : ℕ) (γ-reals : GName) (reals : List Float)
-    (κ-rows : Lft) (q-rows : Share) (b-rows o-rows : ℕ) (γ-rows : GName) (rows : List Row)
+    (κ-rows : Lft) (q-rows : Share) (b-rows o-rows : ℕ) (γ-rows : GName) (rows : List FaultRow)
     (κ-report : Lft) (q-report : Share) (b-report o-report : ℕ) (γ-report : GName) (report : List ℕ)
     (κ-written : Lft) (q-written : Share) (b-written o-written : ℕ) (γ-written : GName) (written : ℕ)
     (fits-file : length (file .now) < 2 ^ 64) (fits-words : length words < 2 ^ 64) (fits-reals : length reals < 2 ^ 64) (fits-rows : length rows < 2 ^ 64) (fits-report : length report < 2 ^ 64) where
@@ -278,14 +278,14 @@ module _ {M : Type 1} (𝓤 : URA M) (H : Heap 𝓤) (A : Atoms 𝓤) (W : Given
   abbrev Entry : SProp 𝓤
   Entry = onEntry 𝓤 H A gablemadder-check.signature (κ-file, (κ-words, (κ-reals, (κ-rows, (κ-report, (κ-written, tt)))))) (q-file, (q-words, (q-reals, (q-rows, (q-report, (q-written, tt)))))) a vals
 
-  abbrev Mine : List ℕ → List Float → List Row → List ℕ → ℕ → Fml
+  abbrev Mine : List ℕ → List Float → List FaultRow → List ℕ → ℕ → Fml
   Mine l-words l-reals l-rows l-report l-written = (fsep (fsep (ShrSlice (named 0) κ-file u8 .own file (pv-file ∷ [])) (flft κ-file q-file)) (fsep (L.Slot u32 κ-words q-words γ-words b-words o-words (pv-words ∷ []) l-words) (fsep (L.Slot f64 κ-reals q-reals γ-reals b-reals o-reals (pv-reals ∷ []) l-reals) (fsep (L.Slot R κ-rows q-rows γ-rows b-rows o-rows (pv-rows ∷ []) l-rows) (fsep (L.Slot u8 κ-report q-report γ-report b-report o-report (pv-report ∷ []) l-report) (LR.Slot usize κ-written q-written γ-written b-written o-written l-written))))))
 
   opened : ent 𝓤 Entry (sem 𝓤 H A (Mine words reals rows report written))
   opened =
       qed W ((‵ (flft κ-file q-file) ⊛ ‵ (flft κ-words q-words) ⊛ ‵ (flft κ-reals q-reals) ⊛ ‵ (flft κ-rows q-rows) ⊛ ‵ (flft κ-report q-report) ⊛ ‵ (flft κ-written q-written) ⊛ ‵ ftrue) ∷ ‵ (owns (ShrSlice (named 0) κ-file u8 ∷ MutSlice (named 1) κ-words u32 ∷ MutSlice (named 2) κ-reals f64 ∷ MutSlice (named 3) κ-rows R ∷ MutSlice (named 4) κ-report u8 ∷ MutRef (named 5) κ-written usize ∷ []) a vals) ∷ []) ∵ split ! $ move ! (1 ∷ []) $ split ! $ move ! (1 ∷ []) $ split ! $ move ! (1 ∷ []) $ split ! $ move ! (1 ∷ []) $ split ! $ move ! (1 ∷ []) $ split ! $ move ! (1 ∷ []) $ drop ! $ move ! (6 ∷ []) $ fsplit ! $ move ! (1 ∷ []) $ fsplit ! $ move ! (1 ∷ []) $ fsplit ! $ move ! (1 ∷ []) $ fsplit ! $ move ! (1 ∷ []) $ fsplit ! $ move ! (1 ∷ []) $ fsplit ! $ move ! (1 ∷ []) $ drop ! $ move ! (5 ∷ 11 ∷ []) $ fjoin ! $ move ! (5 ∷ 10 ∷ []) $ fjoin ! $ move ! (5 ∷ 9 ∷ []) $ fjoin ! $ move ! (5 ∷ 8 ∷ []) $ fjoin ! $ move ! (5 ∷ 7 ∷ []) $ fjoin ! $ move ! (5 ∷ 6 ∷ []) $ fjoin ! $ move ! (1 ∷ 0 ∷ []) $ fjoin ! $ move ! (1 ∷ 0 ∷ []) $ fjoin ! $ move ! (1 ∷ 0 ∷ []) $ fjoin ! $ move ! (1 ∷ 0 ∷ []) $ fjoin ! $ move ! (1 ∷ 0 ∷ []) $ fjoin ! $ done !
 
-  exits : (res : ℕ) (w : Val) (l-words : List ℕ) (l-reals : List Float) (l-rows : List Row) (l-report : List ℕ) (l-written : ℕ) → Checks (file .now) words l-words reals l-reals rows l-rows report l-report written l-written res → length l-words ≡ length words → length l-reals ≡ length reals → length l-rows ≡ length rows → length l-report ≡ length report
+  exits : (res : ℕ) (w : Val) (l-words : List ℕ) (l-reals : List Float) (l-rows : List FaultRow) (l-report : List ℕ) (l-written : ℕ) → Checks (file .now) words l-words reals l-reals rows l-rows report l-report written l-written res → length l-words ≡ length words → length l-reals ≡ length reals → length l-rows ≡ length rows → length l-report ≡ length report
       → ent 𝓤 (⋆ 𝓤 H A (‵ (Mine l-words l-reals l-rows l-report l-written) ∷ ‵ (u32 .own res (w ∷ [])) ∷ [])) (Post w)
   exits res w l-words l-reals l-rows l-report l-written it e-words e-reals e-rows e-report =
       qed W (‵ (Mine l-words l-reals l-rows l-report l-written) ∷ ‵ (u32 .own res (w ∷ [])) ∷ []) ∵
@@ -302,7 +302,7 @@ module _ {M : Type 1} (𝓤 : URA M) (H : Heap 𝓤) (A : Atoms 𝓤) (W : Given
         -- check
         use1 W (later (some (λ (s : Loan × (Loan × (Loan × (Loan)))). raw (Of-check 𝓤 H A mem run .pre (to-check 𝓤 H A W mem run κ-file q-file file κ-words q-words b-words o-words γ-words (length words) κ-reals q-reals b-reals o-reals γ-reals (length reals) κ-rows q-rows b-rows o-rows γ-rows (length rows) κ-report q-report b-report o-report γ-report (length report) κ-written q-written b-written o-written γ-written words reals rows report written s)) ⊛ ‵ (Kept-check 𝓤 H A W mem run κ-file q-file file κ-words q-words b-words o-words γ-words (length words) κ-reals q-reals b-reals o-reals γ-reals (length reals) κ-rows q-rows b-rows o-rows γ-rows (length rows) κ-report q-report b-report o-report γ-report (length report) κ-written q-written b-written o-written γ-written words reals rows report written s)))) (check-asks 𝓤 H A W mem run κ-file q-file file κ-words q-words b-words o-words γ-words (length words) κ-reals q-reals b-reals o-reals γ-reals (length reals) κ-rows q-rows b-rows o-rows γ-rows (length rows) κ-report q-report b-report o-report γ-report (length report) κ-written q-written b-written o-written γ-written words reals rows report written) $ await ! tt $ pick ! (λ s1. split ! $
         calls-at ! fm (Of-check 𝓤 H A mem run) known-check (to-check 𝓤 H A W mem run κ-file q-file file κ-words q-words b-words o-words γ-words (length words) κ-reals q-reals b-reals o-reals γ-reals (length reals) κ-rows q-rows b-rows o-rows γ-rows (length rows) κ-report q-report b-report o-report γ-report (length report) κ-written q-written b-written o-written γ-written words reals rows report written s1) (and-then ! (load ! (from ! (stop !)) (look ! 32 refl)) (and-then ! (load ! (from ! (stop !)) (look ! 16 refl)) (and-then ! (load ! (from ! (stop !)) (look ! 12 refl)) (and-then ! (load ! (from ! (stop !)) (look ! 8 refl)) (and-then ! (load ! (from ! (stop !)) (look ! 4 refl)) (no-more !)))))) (λ w1.
-        use2 W (later (some (λ (x : (Answer × (List ℕ × (List Float × (List Row × (List ℕ × Unit {0})))))). given ((Outcome (file .now) words (x .1 .0) reals (x .1 .1 .0) rows (x .1 .1 .1 .0) report (x .1 .1 .1 .1 .0) (x .0)) × (length (x .1 .0) ≡ length words) × (length (x .1 .1 .0) ≡ length reals) × (length (x .1 .1 .1 .0) ≡ length rows) × (length (x .1 .1 .1 .1 .0) ≡ length report)) (‵ (E.the-row .own (x .0) (w1 ∷ [])) ⊛ ‵ (All 𝓤 H A W mem run κ-file q-file file κ-words q-words b-words o-words γ-words (length words) κ-reals q-reals b-reals o-reals γ-reals (length reals) κ-rows q-rows b-rows o-rows γ-rows (length rows) κ-report q-report b-report o-report γ-report (length report) κ-written q-written b-written o-written γ-written (x .1 .0) (x .1 .1 .0) (x .1 .1 .1 .0) (x .1 .1 .1 .1 .0) written))))) (check-gives 𝓤 H A W mem run κ-file q-file file κ-words q-words b-words o-words γ-words (length words) κ-reals q-reals b-reals o-reals γ-reals (length reals) κ-rows q-rows b-rows o-rows γ-rows (length rows) κ-report q-report b-report o-report γ-report (length report) κ-written q-written b-written o-written γ-written words reals rows report written s1 w1) $ await ! tt $ pick ! (λ x1. learn ! (λ f1. split ! $
+        use2 W (later (some (λ (x : (Answer × (List ℕ × (List Float × (List FaultRow × (List ℕ × Unit {0})))))). given ((Outcome (file .now) words (x .1 .0) reals (x .1 .1 .0) rows (x .1 .1 .1 .0) report (x .1 .1 .1 .1 .0) (x .0)) × (length (x .1 .0) ≡ length words) × (length (x .1 .1 .0) ≡ length reals) × (length (x .1 .1 .1 .0) ≡ length rows) × (length (x .1 .1 .1 .1 .0) ≡ length report)) (‵ (E.the-row .own (x .0) (w1 ∷ [])) ⊛ ‵ (All 𝓤 H A W mem run κ-file q-file file κ-words q-words b-words o-words γ-words (length words) κ-reals q-reals b-reals o-reals γ-reals (length reals) κ-rows q-rows b-rows o-rows γ-rows (length rows) κ-report q-report b-report o-report γ-report (length report) κ-written q-written b-written o-written γ-written (x .1 .0) (x .1 .1 .0) (x .1 .1 .1 .0) (x .1 .1 .1 .1 .0) written))))) (check-gives 𝓤 H A W mem run κ-file q-file file κ-words q-words b-words o-words γ-words (length words) κ-reals q-reals b-reals o-reals γ-reals (length reals) κ-rows q-rows b-rows o-rows γ-rows (length rows) κ-report q-report b-report o-report γ-report (length report) κ-written q-written b-written o-written γ-written words reals rows report written s1 w1) $ await ! tt $ pick ! (λ x1. learn ! (λ f1. split ! $
         peeks ! E.the-row (Is E.the-row) (shows 𝓤 H A E.the-row) (x1 .0) (w1 ∷ []) (λ is1. land ! (from ! (stop !)) (init ! 20 refl (EL.lawful E.the-type E′.the-laws 𝓤 H A W tt .typed (x1 .0) (w1 ∷ []) is1 .0)) $ drop ! $
         assigns ! (addr ! (from ! (hop ! (look ! 21 refl) (stop !)))) (from ! (stop !)) (init ! 1 refl (tt, tt)) $
         -- tell
