@@ -3,8 +3,8 @@
 
 usage: tests/oracle/fixed_list.py make | check
 
-crates/replay_check/stdin holds the part files as the program reads them: six u32 (little-endian), the length of what follows and how many u32 and
-f64 of scratch, u32 and f64 of fault rows (six and three a row) and report bytes are lent; then the file with each run of zero bytes as a zero and the run's length (1 to 255). Its stdout
+crates/replay_check/stdin holds the part files as the program reads them: five u32 (little-endian), the length of what follows and how many u32 and
+f64 of scratch, fault rows and report bytes are lent; then the file with each run of zero bytes as a zero and the run's length (1 to 255). Its stdout
 holds the answers one after the other, each a report or a refusal's line. `make` writes both again, byte by byte the same; `check` compares.
 The files are document 01's examples, every row of its table of refusals among them, the readings at the edge, and of the generator's files, smallest
 first, as many as it takes for each rule and severity, merged line, refusal, process and shape to stand in several.
@@ -27,6 +27,8 @@ CRATES = os.path.join(HERE, "..", "..", "crates")
 LONGEST, LONGEST_OF_ALL = 16384, 155944
 # what the program lends, in the order of its numbers
 LENT = {"--words": 6432, "--reals": 7456, "--rows": 512, "--report": 65536}
+# the programs have these fault rows and no others
+ROWS = (0, 512)
 FROM_GENERATOR, SEED = 15000, 20
 QUOTA = 4
 # 25 texts of rules by severity, 14 rules that merge, refusals 1 to 12
@@ -99,7 +101,9 @@ def lending():
     for _, data, options, want in examples.cases():
         if options or want == 9:
             assert len(data) <= LONGEST_OF_ALL
-            yield data, lent_by(options)
+            lent = lent_by(options)
+            if lent[2] in ROWS:
+                yield data, lent
 
 
 def chosen():
@@ -134,7 +138,7 @@ def answered(data, lent):
 
 def head(data, lent):
     words, reals, rows, report = lent
-    return struct.pack("<6I", len(data), words, reals, 6 * rows, 3 * rows, report) + data
+    return struct.pack("<5I", len(data), words, reals, rows, report) + data
 
 
 def main():

@@ -2,7 +2,7 @@
 use mathlib.Core.Path.{_≡_, refl, sym, ap, _∙_, subst}
 use mathlib.Core.Bool.{Bool, true, false, cond}
 use mathlib.Core.List.{List, _++_}
-use Prim.Native.Nat.{ℕ, _≤_}
+use Prim.Native.Nat.{ℕ, _≤_, min}
 use native.Mathlib.Omega.{arith}
 use lib.Dec.{eqb, leb}
 use lib.ListN.{length, drop}
@@ -10,45 +10,21 @@ use lib.Ieee.{Float}
 use borrow.Author.Tests.{eqb-true, eqb-false}
 use Rattle.num_float.proofs.Tests.{contrary}
 use Rattle.file_part.specs.Part.{partOf}
-use Rattle.file_ok.specs.declared.verdict.Verdict.{Verdict}
-use Rattle.file_ok.specs.declared.verdict.Verdict.the-variants as verdict
-use Rattle.file_ok.specs.Verdict.{number, orTen}
-use Rattle.solid_faces.specs.Faces.{bodyVerdict}
-use Rattle.scratch.specs.Refusal.{tooLittle, bodyRefusal}
-use Rattle.fault_row.specs.Row.{rowRoom}
+use Rattle.scratch.specs.Refusal.{bodyRefusal}
+use Rattle.fault_row.specs.declared.row.FaultRow.{FaultRow}
 use Rattle.fault_lines.specs.Line.{Line}
 use Rattle.fault_lines.specs.Lines.{linesOf}
 use Rattle.fault_lines.proofs.Unique.{determined}
 use Rattle.fault_lines.proofs.Found.{listed}
 use Rattle.report.specs.Text.{reportText}
-use Rattle.dfm.specs.declared.check.Answer.{Answer}
-use Rattle.dfm.specs.declared.check.Answer.the-variants.{Accepted, Refused}
-use Rattle.dfm.specs.Faults.{faultsOf, summaryOf, reportOf}
-use Rattle.dfm.specs.Check.{numberOf, lengthOf, isAccepted, answerOf, Outcome}
+use Rattle.dfm_core.specs.declared.answer.Answer.{Answer}
+use Rattle.dfm_core.specs.declared.answer.Answer.the-variants.{Accepted, Refused}
+use Rattle.dfm_core.specs.Faults.{faultsOf, summaryOf, reportOf}
+use Rattle.dfm_core.specs.Answer.{numberOf, lengthOf, isAccepted, answerOf}
+use Rattle.dfm_core.proofs.AnswerLaws.{refusal-ten}
+use Rattle.dfm.specs.Check.{Outcome}
 
 -- ---- the answer
-number-nine : (v : Verdict) → number v ≤ 9
-unfolding number
-number-nine verdict.Accepted = omega arith
-number-nine verdict.TooShort = omega arith
-number-nine verdict.WrongEdition = omega arith
-number-nine verdict.TooLarge = omega arith
-number-nine verdict.WrongLength = omega arith
-number-nine verdict.BadJob = omega arith
-number-nine verdict.BadVertex = omega arith
-number-nine verdict.BadPolygon = omega arith
-number-nine verdict.FlatPolygon = omega arith
-number-nine verdict.TooManyFaces = omega arith
-
-or-ten : (earlier little : Bool) (n : ℕ) → n ≤ 9 → cond earlier (cond little 10 0) n ≤ 10
-or-ten true true n h = omega arith
-or-ten true false n h = omega arith
-or-ten false little n h = omega (arith, h)
-
-refusal-ten : (s : List ℕ) (words reals : ℕ) → bodyRefusal s words reals ≤ 10
-unfolding bodyRefusal orTen
-refusal-ten s words reals = or-ten (eqb (number (bodyVerdict s)) 0) (tooLittle s words reals) (number (bodyVerdict s)) (number-nine (bodyVerdict s))
-
 -- an answer by its three tests, q being the refusal from 1 to 10
 unfoldable answerBy : Bool → Bool → Bool → ℕ → ℕ → Answer
 answerBy good few fit q n = cond good (cond few (cond fit (Accepted n) (Refused 12)) (Refused 11)) (Refused q)
@@ -88,12 +64,12 @@ answer-by : (s : List ℕ) (words reals rows room : ℕ) → answerOf s words re
 unfolding answerOf answerBy
 answer-by s words reals rows room = refl
 
-module _ {s words words′ : List ℕ} {reals reals′ : List Float} {cells cells′ : List ℕ} {numbers numbers′ : List Float} {report report′ : List ℕ} {r : Answer}
-    (o : Outcome s words words′ reals reals′ cells cells′ numbers numbers′ report report′ r) where
+module _ {s words words′ : List ℕ} {reals reals′ : List Float} {rows rows′ : List FaultRow} {report report′ : List ℕ} {r : Answer}
+    (o : Outcome s words words′ reals reals′ rows rows′ report report′ r) where
   -- the answer by its tests
-  is : r ≡ answerBy (eqb (bodyRefusal s (length words) (length reals)) 0) (leb (length (faultsOf (partOf s))) (rowRoom (length cells) (length numbers)))
+  is : r ≡ answerBy (eqb (bodyRefusal s (length words) (length reals)) 0) (leb (length (faultsOf (partOf s))) (min 2048 (length rows)))
       (leb (length (reportOf (partOf s))) (length report)) (bodyRefusal s (length words) (length reals)) (length (reportOf (partOf s)))
-  is = o .answer ∙ answer-by s (length words) (length reals) (rowRoom (length cells) (length numbers)) (length report)
+  is = o .answer ∙ answer-by s (length words) (length reals) (min 2048 (length rows)) (length report)
 
   -- the numbers end at 12, "report longer than its buffer"
   pub answer-number : numberOf r ≤ 12
@@ -119,9 +95,9 @@ module _ {s words words′ : List ℕ} {reals reals′ : List Float} {cells cell
   report-length ok = ap lengthOf is ∙ by-length _ _ _ _ _ (ap isAccepted (sym is) ∙ ok)
 
 -- ---- the outcome: the only one of a call
-module _ {s words words1 words2 : List ℕ} {reals reals1 reals2 : List Float} {cells cells1 cells2 : List ℕ} {numbers numbers1 numbers2 : List Float}
-    {report report1 report2 : List ℕ} {r1 r2 : Answer} (a : Outcome s words words1 reals reals1 cells cells1 numbers numbers1 report report1 r1)
-    (b : Outcome s words words2 reals reals2 cells cells2 numbers numbers2 report report2 r2) where
+module _ {s words words1 words2 : List ℕ} {reals reals1 reals2 : List Float} {rows rows1 rows2 : List FaultRow}
+    {report report1 report2 : List ℕ} {r1 r2 : Answer} (a : Outcome s words words1 reals reals1 rows rows1 report report1 r1)
+    (b : Outcome s words words2 reals reals2 rows rows2 report report2 r2) where
   one-answer : r1 ≡ r2
   one-answer = a .answer ∙ sym (b .answer)
 
@@ -132,21 +108,21 @@ module _ {s words words1 words2 : List ℕ} {reals reals1 reals2 : List Float} {
       go true e = report-alone a e ∙ sym (report-alone b (ap isAccepted (sym one-answer) ∙ e))
       go false e = a .unreported e ∙ sym (b .unreported (ap isAccepted (sym one-answer) ∙ e))
 
-  one-work : (words1 ≡ words2) × (reals1 ≡ reals2) × (cells1 ≡ cells2) × (numbers1 ≡ numbers2)
+  one-work : (words1 ≡ words2) × (reals1 ≡ reals2) × (rows1 ≡ rows2)
   one-work = go (eqb q 0) refl
     where
       q : ℕ
       q = bodyRefusal s (length words) (length reals)
 
-      go : (good : Bool) → eqb q 0 ≡ good → (words1 ≡ words2) × (reals1 ≡ reals2) × (cells1 ≡ cells2) × (numbers1 ≡ numbers2)
+      go : (good : Bool) → eqb q 0 ≡ good → (words1 ≡ words2) × (reals1 ≡ reals2) × (rows1 ≡ rows2)
       go true e =
           let x = a .cleared (eqb-true q 0 e) in
           let y = b .cleared (eqb-true q 0 e) in
-          (x .words-zero ∙ sym (y .words-zero), x .reals-zero ∙ sym (y .reals-zero), x .cells-zero ∙ sym (y .cells-zero), x .numbers-zero ∙ sym (y .numbers-zero))
+          (x .words-zero ∙ sym (y .words-zero), x .reals-zero ∙ sym (y .reals-zero), x .rows-zero ∙ sym (y .rows-zero))
       go false e =
           let x = a .untouched (eqb-false q 0 e) in
           let y = b .untouched (eqb-false q 0 e) in
-          (x .words-same ∙ sym (y .words-same), x .reals-same ∙ sym (y .reals-same), x .cells-same ∙ sym (y .cells-same), x .numbers-same ∙ sym (y .numbers-same))
+          (x .words-same ∙ sym (y .words-same), x .reals-same ∙ sym (y .reals-same), x .rows-same ∙ sym (y .rows-same))
 
-  pub outcome-only : (r1 ≡ r2) × (report1 ≡ report2) × (words1 ≡ words2) × (reals1 ≡ reals2) × (cells1 ≡ cells2) × (numbers1 ≡ numbers2)
-  outcome-only = (one-answer, one-report, one-work .0, one-work .1, one-work .2, one-work .3)
+  pub outcome-only : (r1 ≡ r2) × (report1 ≡ report2) × (words1 ≡ words2) × (reals1 ≡ reals2) × (rows1 ≡ rows2)
+  outcome-only = (one-answer, one-report, one-work .0, one-work .1, one-work .2)

@@ -1,4 +1,2 @@
--- What the check of a part file answers.
-pub mod Faults
+-- What the check of a part file answers and leaves.
 pub mod Check
-pub mod Work

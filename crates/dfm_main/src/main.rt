@@ -1,5 +1,5 @@
 // Checks the part file on standard input: prints its report, `refused` with a blank and the number, or `too long` for more than 16,384 bytes.
-use dfm::check::check;
+use dfm_own::check_own;
 use dfm_print::print_answer;
 use libc::STDIN_FILENO;
 use libc::STDOUT_FILENO;
@@ -15,27 +15,14 @@ const WORDS: usize = 6_432;
 
 const REALS: usize = 7_456;
 
-// 512 fault rows of six cells and three numbers.
-const CELLS: usize = 3_072;
-
-const NUMBERS: usize = 1_536;
-
 const REPORT: usize = 65_536;
 
+// 512 fault rows are lent.
 fn check_file(file: &[u8]) {
     let mut words = [0u32; WORDS];
     let mut reals = [0.0f64; REALS];
-    let mut cells = [0u32; CELLS];
-    let mut numbers = [0.0f64; NUMBERS];
     let mut report = [0u8; REPORT];
-    let answer = check(
-        file,
-        &mut words,
-        &mut reals,
-        &mut cells,
-        &mut numbers,
-        &mut report,
-    );
+    let answer = check_own(file, &mut words, &mut reals, &mut report);
     print_answer(answer, &report);
 }
 

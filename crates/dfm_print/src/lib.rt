@@ -1,5 +1,5 @@
 // What the programs print of the answer to a part file.
-use dfm::check::Answer;
+use dfm_core::answer::Answer;
 use libc::STDOUT_FILENO;
 
 // The first bytes of the buffer.

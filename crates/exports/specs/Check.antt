@@ -4,13 +4,15 @@ use mathlib.Core.Bool.{cond}
 use mathlib.Core.List.{List}
 use Prim.Native.Nat.{ℕ}
 use lib.Ieee.{Float}
-use Rattle.dfm.specs.declared.check.Answer.{Answer}
-use Rattle.dfm.specs.Check.{numberOf, lengthOf, isAccepted, Outcome}
+use Rattle.fault_row.specs.declared.row.FaultRow.{FaultRow}
+use Rattle.dfm_core.specs.declared.answer.Answer.{Answer}
+use Rattle.dfm_core.specs.Answer.{numberOf, lengthOf, isAccepted}
+use Rattle.dfm.specs.Check.{Outcome}
 
 -- The outcome of the check, its answer told by two numbers: the refusal's, 0 for none, and the report's length, which is set where there is a report
 -- and else unchanged.
-pub record Checks (s words words′ : List ℕ) (reals reals′ : List Float) (cells cells′ : List ℕ) (numbers numbers′ : List Float) (report report′ : List ℕ) (old new r : ℕ) : Type 0 where
+pub record Checks (s words words′ : List ℕ) (reals reals′ : List Float) (rows rows′ : List FaultRow) (report report′ : List ℕ) (old new r : ℕ) : Type 0 where
   pub answer : Answer
-  pub outcome : Outcome s words words′ reals reals′ cells cells′ numbers numbers′ report report′ answer
+  pub outcome : Outcome s words words′ reals reals′ rows rows′ report report′ answer
   pub refusal : r ≡ numberOf answer
   pub written : new ≡ cond (isAccepted answer) (lengthOf answer) old

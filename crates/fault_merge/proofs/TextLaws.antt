@@ -12,7 +12,7 @@ use Rattle.num_text.specs.Put.{Put}
 use Rattle.num_text.proofs.PutLaws.{put-measures, put-taken}
 use Rattle.file_part.specs.Part.{Part, partOf}
 use Rattle.solid_faces.specs.Faces.{Checked}
-use Rattle.fault_row.specs.declared.row.Row.{Row}
+use Rattle.fault_row.specs.declared.row.FaultRow.{FaultRow}
 use Rattle.fault_row.specs.Names.{severityRank, severityOf, ruleRank}
 use Rattle.fault_row.specs.Fault.{Heading}
 use Rattle.fault_row.proofs.NameLaws.{rule-rank-lt}
@@ -24,10 +24,10 @@ use Rattle.fault_text.proofs.LengthLaws.{checked-short}
 use Rattle.fault_merge.specs.Rows.{headingOf}
 
 -- ---- a text that was written into a buffer of 512 bytes
-pub text-short : (s : List ℕ) (row : Row) → Checked s → length (textOf (partOf s) row) ≤ 512
+pub text-short : (s : List ℕ) (row : FaultRow) → Checked s → length (textOf (partOf s) row) ≤ 512
 text-short s row h = omega (arith, checked-short s row h)
 
-pub written : (s : List ℕ) (row : Row) → Checked s → {d e : List ℕ} {k : ℕ} → 512 ≤ length d → Put d 0 (textOf (partOf s) row) e k →
+pub written : (s : List ℕ) (row : FaultRow) → Checked s → {d e : List ℕ} {k : ℕ} → 512 ≤ length d → Put d 0 (textOf (partOf s) row) e k →
     (k ≡ length (textOf (partOf s) row)) × (k ≤ 512) × (take k e ≡ textOf (partOf s) row)
 written s row h {d} {e} {k} l p =
     let short : length (textOf (partOf s) row) ≤ 512 = text-short s row h in
@@ -52,7 +52,7 @@ rank-of (suc (suc zero)) h = refl
 rank-of (suc (suc (suc n))) h = absurd (omega (arith, h))
 
 -- the rank of a row's line, as code finds it
-abbrev rank : Row → ℕ
+abbrev rank : FaultRow → ℕ
 rank row = row .severity * 18 + ruleRank (ruleOf (row .kind))
 
 -- one number is two, each in its range
@@ -62,7 +62,7 @@ apart a b c d k l e = (omega (arith, k, l, e), omega (arith, k, l, e))
 both : (p q t : Bool) → p ≡ true → q ≡ true → (p && (q && t)) ≡ t
 both p q t e f = rw (e, f)
 
-module _ (t : Part) (r s : Row) (r-to : r .severity < 3) (s-to : s .severity < 3) where
+module _ (t : Part) (r s : FaultRow) (r-to : r .severity < 3) (s-to : s .severity < 3) where
   pub other-rank : (rank r ≡ rank s → ⊥) → sameHeading (headingOf t r) (headingOf t s) ≡ false
   unfolding faultOf
   other-rank h =

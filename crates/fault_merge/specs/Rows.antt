@@ -5,13 +5,13 @@ use lib.ListN.{length}
 use lib.Ieee.{Float}
 use Rattle.file_part.specs.Part.{Part, partOf}
 use Rattle.solid_faces.specs.Faces.{Checked}
-use Rattle.fault_row.specs.declared.row.Row.{Row}
+use Rattle.fault_row.specs.declared.row.FaultRow.{FaultRow}
 use Rattle.fault_row.specs.Fault.{Heading, Fault}
 use Rattle.fault_row.specs.Row.{rowAt}
 use Rattle.fault_text.specs.Meaning.{faultOf, GoodRow}
 
 -- what the faults of one line have in common
-abbrev pub headingOf : Part → Row → Heading
+abbrev pub headingOf : Part → FaultRow → Heading
 headingOf t row = faultOf t row .heading
 
 -- of row i

@@ -4,7 +4,7 @@ ghost use Prim.Native.Nat.{_+_, _*_, _<_};
 ghost use Rattle.fault_row.specs.Names.{ruleRank};
 ghost use Rattle.fault_text.specs.Kind.{machiningRule, sheetRule, printingRule, ruleOf};
 use fault_row::fault::Rule;
-use fault_row::row::Row;
+use fault_row::row::FaultRow;
 use fault_text::kind::DEEP_HOLE_MAX;
 use fault_text::kind::DEEP_HOLE_STANDARD;
 use fault_text::kind::DEEP_INSIDE_CORNER;
@@ -157,7 +157,7 @@ fn rule_rank(rule: Rule) -> usize
 }
 
 // The rank of a fault's line: by severity, then by the name of the rule. There are 54.
-pub fn rank_of(row: Row) -> usize
+pub fn rank_of(row: FaultRow) -> usize
     requires { ⌜ row .severity < 3 ⌝ }
     ensures { λ r. ⌜ r ≡ row .severity * 18 + ruleRank (ruleOf (row .kind)) ⌝ }
 {

@@ -9,7 +9,7 @@ ghost use Rattle.fault_text.specs.Meaning.{textOf};
 ghost use Rattle.fault_merge.specs.Hash.{hashOf};
 ghost use Rattle.fault_merge.specs.Rows.{headingOf};
 use crate::rule::rank_of;
-use fault_row::row::Row;
+use fault_row::row::FaultRow;
 use fault_text::message::put_message;
 
 // A byte as a wide number.
@@ -34,7 +34,7 @@ fn hash(text: &[u8], n: usize) -> u32
 }
 
 // A hash of a fault's text.
-pub fn text_hash(file: &[u8], row: Row) -> u32
+pub fn text_hash(file: &[u8], row: FaultRow) -> u32
     requires { ⌜ Checked (now file) ⌝ }
     ensures { λ r. ⌜ r ≡ hashOf (textOf (partOf (now (file .entry))) row) ⌝ }
 {
@@ -59,7 +59,7 @@ fn same_front(a: &[u8], b: &[u8], n: usize) -> bool
 }
 
 // Whether the texts of two faults agree, byte for byte.
-fn same_text(file: &[u8], r: Row, s: Row) -> bool
+fn same_text(file: &[u8], r: FaultRow, s: FaultRow) -> bool
     requires { ⌜ Checked (now file) ⌝ }
     ensures { λ x. ⌜ x ≡ sameText (textOf (partOf (now (file .entry))) r) (textOf (partOf (now (file .entry))) s) ⌝ }
 {
@@ -74,7 +74,7 @@ fn same_text(file: &[u8], r: Row, s: Row) -> bool
 }
 
 // Whether two faults agree in severity, rule and text. Severity and rule agree where the ranks do.
-pub fn same_heading(file: &[u8], r: Row, s: Row) -> bool
+pub fn same_heading(file: &[u8], r: FaultRow, s: FaultRow) -> bool
     requires { ⌜ Checked (now file) ⌝ ∗ ⌜ r .severity < 3 ⌝ ∗ ⌜ s .severity < 3 ⌝ }
     ensures { λ x. ⌜ x ≡ sameHeading (headingOf (partOf (now (file .entry))) r) (headingOf (partOf (now (file .entry))) s) ⌝ }
 {

@@ -9,13 +9,13 @@ use lib.Seq.{getD-append-add}
 use lib.Ieee.{Float, nan}
 use Rattle.num_float.proofs.Tests.{lt-or-ge}
 use Rattle.list_laws.proofs.Outside.{outside-none, outside-then, outside-wide}
-use Rattle.fault_row.specs.declared.row.Row.{Row}
+use Rattle.fault_row.specs.declared.row.FaultRow.{FaultRow}
 use Rattle.fault_row.specs.Fault.{Fault, none}
 use Rattle.fault_row.specs.Row.{rowAt, rowRoom, RowPut}
 use Rattle.fault_row.specs.Faults.{FaultsPut}
 use Rattle.fault_row.proofs.RowLaws.{row-kept}
 
-module _ {meaning : Row → Fault} {good : Row → Type 0} where
+module _ {meaning : FaultRow → Fault} {good : FaultRow → Type 0} where
   pub faults-none : (from : ℕ) (cells : List ℕ) (numbers : List Float) → FaultsPut meaning good from [] cells cells numbers numbers from
   faults-none from cells numbers =
       record {
@@ -27,7 +27,7 @@ module _ {meaning : Row → Fault} {good : Row → Type 0} where
       }
 
   -- one fault, by a row that means it
-  pub faults-one : {k r : ℕ} {row : Row} {cells cells′ : List ℕ} {numbers numbers′ : List Float} (f : Fault) → RowPut k row cells cells′ numbers numbers′ r →
+  pub faults-one : {k r : ℕ} {row : FaultRow} {cells cells′ : List ℕ} {numbers numbers′ : List Float} (f : Fault) → RowPut k row cells cells′ numbers numbers′ r →
       meaning row ≡ f → good row → FaultsPut meaning good k (f ∷ []) cells cells′ numbers numbers′ r
   faults-one {k} {r} {row} {cells} {cells′} {numbers} {numbers′} f p means ok =
       let end : r ≡ k + 1 = p .count in

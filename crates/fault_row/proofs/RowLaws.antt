@@ -8,11 +8,11 @@ use lib.Ieee.{Float, nan}
 use Rattle.list_laws.specs.Region.{Outside}
 use Rattle.list_laws.proofs.Outside.{outside-none}
 use Rattle.list_laws.proofs.Stores.{stores, stores-length, stores-below, stores-above, stores-at}
-use Rattle.fault_row.specs.declared.row.Row.{Row}
+use Rattle.fault_row.specs.declared.row.FaultRow.{FaultRow}
 use Rattle.fault_row.specs.Row.{row, rowAt, rowRoom, RowPut}
 
 -- ---- a row by its fields
-module _ (u v : Row) (kind : u .kind ≡ v .kind) (severity : u .severity ≡ v .severity) (count : u .count ≡ v .count) (a : u .a ≡ v .a) (b : u .b ≡ v .b)
+module _ (u v : FaultRow) (kind : u .kind ≡ v .kind) (severity : u .severity ≡ v .severity) (count : u .count ≡ v .count) (a : u .a ≡ v .a) (b : u .b ≡ v .b)
     (waived : u .waived ≡ v .waived) (x : u .x ≡ v .x) (y : u .y ≡ v .y) (z : u .z ≡ v .z) where
   row-path : u ≡ v
   row-path = λ i. row (kind i) (severity i) (count i) (a i) (b i) (waived i) (x i) (y i) (z i)
@@ -64,7 +64,7 @@ pub numbers-fit : (cells numbers k r : ℕ) → r ≡ rowRoom cells numbers → 
 unfolding rowRoom
 numbers-fit cells numbers k r e h = omega arith
 
-module _ (cells : List ℕ) (numbers : List Float) (k r : ℕ) (w : Row) (rows : r ≡ rowRoom (length cells) (length numbers)) where
+module _ (cells : List ℕ) (numbers : List Float) (k r : ℕ) (w : FaultRow) (rows : r ≡ rowRoom (length cells) (length numbers)) where
   abbrev words : List ℕ
   words = w .severity ∷ w .count ∷ w .a ∷ w .b ∷ w .waived ∷ []
 

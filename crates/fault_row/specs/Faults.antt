@@ -5,13 +5,13 @@ use Prim.Native.Nat.{ℕ, _+_, _*_, _<_}
 use lib.ListN.{length, getD}
 use lib.Ieee.{Float, nan}
 use Rattle.list_laws.specs.Region.{Outside}
-use Rattle.fault_row.specs.declared.row.Row.{Row}
+use Rattle.fault_row.specs.declared.row.FaultRow.{FaultRow}
 use Rattle.fault_row.specs.Fault.{Fault, none}
 use Rattle.fault_row.specs.Row.{rowAt, rowRoom}
 
 -- The faults are put as the rows from number `from` on, where those are lent, and r is the number of rows then. `meaning` is the fault that a row
 -- is, and `good` what every row put has to be. "Faults are numbered from 0 in that order": row k is fault k.
-pub record FaultsPut (meaning : Row → Fault) (good : Row → Type 0) (from : ℕ) (faults : List Fault) (cells cells′ : List ℕ)
+pub record FaultsPut (meaning : FaultRow → Fault) (good : FaultRow → Type 0) (from : ℕ) (faults : List Fault) (cells cells′ : List ℕ)
     (numbers numbers′ : List Float) (r : ℕ) : Type 0 where
   pub count : r ≡ from + length faults
   pub each : (k : ℕ) → k < length faults → from + k < rowRoom (length cells) (length numbers) → meaning (rowAt cells′ numbers′ (from + k)) ≡ getD faults k none

@@ -11,8 +11,9 @@ pub const WARNING: u32 = 1;
 
 pub const NOTE: u32 = 2;
 
-// What is kept of a fault, so that its text and its faces follow from the row and the part. A row of zeros is no fault.
-pub struct Row {
+// What is kept of a fault, so that its text and its faces follow from the row and the part. A row of zeros is no fault. 48 bytes, for C too.
+#[repr(C)]
+pub struct FaultRow {
     // The rule and the message, from 1 on.
     pub kind: u32,
     // Its rank, from 0 to 2.
@@ -49,7 +50,7 @@ pub fn rows_lent(cells: usize, numbers: usize) -> usize
 }
 
 // Puts row k where it is lent; else it is only counted. The number of rows then, so that faults past the rows lent are known too.
-pub fn put_row(cells: &mut [u32], numbers: &mut [f64], k: usize, row: Row) -> usize
+pub fn put_row(cells: &mut [u32], numbers: &mut [f64], k: usize, row: FaultRow) -> usize
     requires { ⌜ k < 4294967296 ⌝ }
     ensures { λ r. ⌜ RowPut k row (now (cells .entry)) (now (cells .exit)) (now (numbers .entry)) (now (numbers .exit)) r ⌝ }
 {
@@ -71,13 +72,13 @@ pub fn put_row(cells: &mut [u32], numbers: &mut [f64], k: usize, row: Row) -> us
 }
 
 // Row k, as it stands in the slices.
-pub fn row_at(cells: &[u32], numbers: &[f64], k: usize) -> Row
+pub fn row_at(cells: &[u32], numbers: &[f64], k: usize) -> FaultRow
     requires { ⌜ 6 * k + 6 ≤ length (now cells) ⌝ ∗ ⌜ 3 * k + 3 ≤ length (now numbers) ⌝ }
     ensures { λ r. ⌜ r ≡ rowAt (now (cells .entry)) (now (numbers .entry)) k ⌝ }
 {
     let at = 6 * k;
     let number = 3 * k;
-    Row {
+    FaultRow {
         kind: cells[at],
         severity: cells[at + 1],
         count: cells[at + 2],

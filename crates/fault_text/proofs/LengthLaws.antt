@@ -15,7 +15,7 @@ use Rattle.file_job.specs.declared.Process.{Process}
 use Rattle.file_job.specs.declared.Process.the-variants.{CncMachining, SheetMetal, Fdm, Sla, Sls}
 use Rattle.file_part.specs.Part.{Part, partOf}
 use Rattle.solid_faces.specs.Faces.{Checked}
-use Rattle.fault_row.specs.declared.row.Row.{Row}
+use Rattle.fault_row.specs.declared.row.FaultRow.{FaultRow}
 use Rattle.fault_text.specs.Kind.{thinWall, smallHole, deepHoleMax, deepHoleStandard, tightInsideRadius, deepInsideCorner, sharpInsideCorner, noMaterial, material, notOneThickness, tightBend, shortFlange, sheetSmallHole, holeNearBend, holeNearEdge, thinnerThanALayer, fewLayers, thinnerThanTheNozzle, printThinWall, printSmallHole, overhang, enclosedHollowSla, enclosedHollowSls}
 use Rattle.fault_text.specs.Job.{minWall, nameOr, workName}
 use Rattle.fault_text.specs.Text.{mm}
@@ -172,7 +172,7 @@ either : (b : Bool) (p q : List ℕ) → length p ≤ 255 → length q ≤ 255 �
 either true p q h k = h
 either false p q h k = k
 
-machining-short : (t : Part) (row : Row) → length (t .name) ≤ 40 → length (machiningText t row) ≤ 255
+machining-short : (t : Part) (row : FaultRow) → length (t .name) ≤ 40 → length (machiningText t row) ≤ 255
 unfolding machiningText
 machining-short t row h =
     either (eqb (row .kind) thinWall) _ _ (thin-wall-short t (row .x) h)
@@ -183,7 +183,7 @@ machining-short t row h =
     (either (eqb (row .kind) deepInsideCorner) _ _ (deep-inside-corner-short (row .x) (row .y) (row .z))
     (either (eqb (row .kind) sharpInsideCorner) _ _ (sharp-inside-corner-short (row .x) (row .y)) (omega arith)))))))
 
-sheet-short : (t : Part) (row : Row) → length (t .name) ≤ 40 → t .job .material .«bend_ratio» ≤ 100000 → length (sheetText t row) ≤ 255
+sheet-short : (t : Part) (row : FaultRow) → length (t .name) ≤ 40 → t .job .material .«bend_ratio» ≤ 100000 → length (sheetText t row) ≤ 255
 unfolding sheetText
 sheet-short t row h r =
     either (eqb (row .kind) noMaterial) _ _ (no-material-short)
@@ -195,7 +195,7 @@ sheet-short t row h r =
     (either (eqb (row .kind) holeNearBend) _ _ (hole-near-bend-short (row .x) (row .y))
     (either (eqb (row .kind) holeNearEdge) _ _ (hole-near-edge-short (row .x) (row .y)) (omega arith))))))))
 
-printing-short : (t : Part) (row : Row) → length (printingText t row) ≤ 255
+printing-short : (t : Part) (row : FaultRow) → length (printingText t row) ≤ 255
 unfolding printingText
 printing-short t row =
     either (eqb (row .kind) thinnerThanALayer) _ _ (thinner-than-a-layer-short (row .x) (t .job .print .layer))
@@ -207,12 +207,12 @@ printing-short t row =
     (either (eqb (row .kind) enclosedHollowSla) _ _ (enclosed-hollow-sla-short (row .x))
     (either (eqb (row .kind) enclosedHollowSls) _ _ (enclosed-hollow-sls-short (row .x)) (omega arith))))))))
 
-pub text-short : (t : Part) (row : Row) → length (t .name) ≤ 40 → t .job .material .«bend_ratio» ≤ 100000 → length (textOf t row) ≤ 255
+pub text-short : (t : Part) (row : FaultRow) → length (t .name) ≤ 40 → t .job .material .«bend_ratio» ≤ 100000 → length (textOf t row) ≤ 255
 unfolding textOf
 text-short t row h r =
     either (leb (row .kind) sharpInsideCorner) _ _ (machining-short t row h)
     (either (leb (row .kind) holeNearEdge) _ _ (sheet-short t row h r) (printing-short t row))
 
 -- of an accepted file
-pub checked-short : (s : List ℕ) (row : Row) → Checked s → length (textOf (partOf s) row) ≤ 255
+pub checked-short : (s : List ℕ) (row : FaultRow) → Checked s → length (textOf (partOf s) row) ≤ 255
 checked-short s row h = text-short (partOf s) row (name-short s h) (ratio-to s h)

@@ -13,7 +13,7 @@ use Rattle.solid_faces.proofs.CountLaws.{few-faces}
 use borrow.Author.Tests.{lt-leb}
 use Rattle.fault_row.specs.declared.fault.Severity.{Severity}
 use Rattle.fault_row.specs.Names.{severityRank, severityOf}
-use Rattle.fault_row.specs.declared.row.Row.{Row}
+use Rattle.fault_row.specs.declared.row.FaultRow.{FaultRow}
 use Rattle.fault_row.specs.Row.{row}
 use Rattle.fault_row.proofs.NameLaws.{severity-of}
 use Rattle.fault_text.specs.Kind.{thinWall, smallHole, deepHoleMax, deepHoleStandard, tightInsideRadius, deepInsideCorner, sharpInsideCorner, enclosedHollowSla, lastKind, machiningRule, ruleOf}
@@ -124,6 +124,6 @@ module _ (t : Part) where
       good-row-at kind severity 1 a b x y z from to s (omega arith) (omega arith) (place-of-face (leb enclosedHollowSla kind) a fa) fb ok
 
   -- a is a face but for hollows
-  pub face-there : (r : Row) → GoodRow t r → r .kind < enclosedHollowSla → r .a < facesOf t
+  pub face-there : (r : FaultRow) → GoodRow t r → r .kind < enclosedHollowSla → r .a < facesOf t
   unfolding placesOf
   face-there r g h = subst (λ (b : Bool). r .a < cond b (t .polygons) (facesOf t)) (lt-leb enclosedHollowSla (r .kind) h) (g .a-there)

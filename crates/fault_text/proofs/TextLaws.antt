@@ -4,7 +4,7 @@ use mathlib.Core.List.{[]}
 use Prim.Native.Nat.{_≤_, _<_}
 use borrow.Author.Tests.{le-leb, lt-leb, ne-eqb}
 use Rattle.file_part.specs.Part.{Part}
-use Rattle.fault_row.specs.declared.row.Row.{Row}
+use Rattle.fault_row.specs.declared.row.FaultRow.{FaultRow}
 use Rattle.fault_text.specs.Kind.{thinWall, smallHole, deepHoleMax, deepHoleStandard, tightInsideRadius, deepInsideCorner, sharpInsideCorner, noMaterial, material, notOneThickness, tightBend, shortFlange, sheetSmallHole, holeNearBend, holeNearEdge, thinnerThanALayer, fewLayers, thinnerThanTheNozzle, printThinWall, printSmallHole, overhang, enclosedHollowSla, enclosedHollowSls}
 use Rattle.fault_text.specs.Machining.{thinWallText, smallHoleText, deepHoleMaxText, deepHoleStandardText, tightInsideRadiusText, deepInsideCornerText, sharpInsideCornerText, machiningText}
 use Rattle.fault_text.specs.Sheet.{noMaterialText, materialText, notOneThicknessText, tightBendText, shortFlangeText, sheetSmallHoleText, holeNearBendText, holeNearEdgeText, sheetText}
@@ -12,7 +12,7 @@ use Rattle.fault_text.specs.Printing.{thinnerThanALayerText, fewLayersTe
 use Rattle.fault_text.specs.Meaning.{textOf}
 
 -- ---- machining
-module _ (t : Part) (row : Row) where
+module _ (t : Part) (row : FaultRow) where
   pub text-thin-wall : row .kind ≡ thinWall → thinWallText t (row .x) ≡ machiningText t row
   unfolding machiningText
   text-thin-wall e = rw e
@@ -48,7 +48,7 @@ module _ (t : Part) (row : Row) where
       rw (ne-eqb _ _ a, ne-eqb _ _ b, ne-eqb _ _ c, ne-eqb _ _ d, ne-eqb _ _ e, ne-eqb _ _ f, ne-eqb _ _ g)
 
 -- ---- sheet metal
-module _ (t : Part) (row : Row) where
+module _ (t : Part) (row : FaultRow) where
   pub text-no-material : row .kind ≡ noMaterial → noMaterialText ≡ sheetText t row
   unfolding sheetText
   text-no-material e = rw e
@@ -87,7 +87,7 @@ module _ (t : Part) (row : Row) where
       rw (ne-eqb _ _ a, ne-eqb _ _ b, ne-eqb _ _ c, ne-eqb _ _ d, ne-eqb _ _ e, ne-eqb _ _ f, ne-eqb _ _ g, ne-eqb _ _ h)
 
 -- ---- printing
-module _ (t : Part) (row : Row) where
+module _ (t : Part) (row : FaultRow) where
   pub text-thinner-than-a-layer : row .kind ≡ thinnerThanALayer → thinnerThanALayerText (row .x) (t .job .print .layer) ≡ printingText t row
   unfolding printingText
   text-thinner-than-a-layer e = rw e
@@ -126,7 +126,7 @@ module _ (t : Part) (row : Row) where
       rw (ne-eqb _ _ a, ne-eqb _ _ b, ne-eqb _ _ c, ne-eqb _ _ d, ne-eqb _ _ e, ne-eqb _ _ f, ne-eqb _ _ g, ne-eqb _ _ h)
 
 -- ---- by process
-module _ (t : Part) (row : Row) where
+module _ (t : Part) (row : FaultRow) where
   pub text-machining : row .kind ≤ sharpInsideCorner → machiningText t row ≡ textOf t row
   unfolding textOf
   text-machining h = rw (le-leb (row .kind) sharpInsideCorner h)

@@ -12,7 +12,7 @@ use Rattle.solid_ids.specs.Ids.{idOf}
 use Rattle.fault_row.specs.declared.fault.Severity.{Severity}
 use Rattle.fault_row.specs.declared.fault.Severity.the-variants.{Warning, Note}
 use Rattle.fault_row.specs.declared.fault.Rule.the-variants.{DeepHole, DeepInsideCorner, SharpInsideCorner, SmallHole, ThinWall, TightInsideRadius}
-use Rattle.fault_row.specs.declared.row.Row.{Row}
+use Rattle.fault_row.specs.declared.row.FaultRow.{FaultRow}
 use Rattle.fault_row.specs.Fault.{Fault, fault}
 use Rattle.fault_text.specs.Kind.{thinWall, smallHole, deepHoleMax, deepHoleStandard, tightInsideRadius, deepInsideCorner, sharpInsideCorner}
 use Rattle.fault_text.specs.Job.{minWall, workName}
@@ -78,7 +78,7 @@ unfoldable pub sharpInsideCornerFault : Part → ℕ → ℕ → Float → Float
 sharpInsideCornerFault t f g length fillet = fault Warning SharpInsideCorner (sharpInsideCornerText length fillet) (idOf t f ∷ idOf t g ∷ [])
 
 -- ---- of a row: x, y and z are what the kind's message prints
-unfoldable pub machiningText : Part → Row → List ℕ
+unfoldable pub machiningText : Part → FaultRow → List ℕ
 machiningText t row =
     cond (eqb (row .kind) thinWall) (thinWallText t (row .x))
     (cond (eqb (row .kind) smallHole) (smallHoleText (row .x))
@@ -89,7 +89,7 @@ machiningText t row =
     (cond (eqb (row .kind) sharpInsideCorner) (sharpInsideCornerText (row .x) (row .y)) []))))))
 
 -- the decimal writer takes every number that it prints
-unfoldable pub machiningPrinted : Part → Row → Bool
+unfoldable pub machiningPrinted : Part → FaultRow → Bool
 machiningPrinted t row =
     cond (eqb (row .kind) thinWall) (accepted (row .x) 2 && accepted (minWall t) 2)
     (cond (eqb (row .kind) smallHole) (accepted (row .x) 2 && accepted minDrill 2)

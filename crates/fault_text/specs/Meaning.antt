@@ -8,7 +8,7 @@ use Rattle.file_part.specs.declared.read.FaceId.{FaceId}
 use Rattle.file_part.specs.Part.{Part}
 use Rattle.solid_faces.specs.Faces.{facesOf}
 use Rattle.solid_ids.specs.Ids.{idOf}
-use Rattle.fault_row.specs.declared.row.Row.{Row}
+use Rattle.fault_row.specs.declared.row.FaultRow.{FaultRow}
 use Rattle.fault_row.specs.Names.{severityOf}
 use Rattle.fault_row.specs.Fault.{Fault}
 use Rattle.fault_text.specs.Kind.{thinWall, smallHole, deepInsideCorner, sharpInsideCorner, tightBend, shortFlange, sheetSmallHole, holeNearBend, holeNearEdge, thinnerThanALayer, printThinWall, printSmallHole, enclosedHollowSla, lastKind, ruleOf}
@@ -18,7 +18,7 @@ use Rattle.fault_text.specs.Printing.{printingText, printingPrinted}
 use Rattle.fault_text.specs.Many.{manyFaces}
 
 -- by the process that the kind is of; nothing for a number that is no kind
-unfoldable pub textOf : Part → Row → List ℕ
+unfoldable pub textOf : Part → FaultRow → List ℕ
 textOf t row = cond (leb (row .kind) sharpInsideCorner) (machiningText t row) (cond (leb (row .kind) holeNearEdge) (sheetText t row) (printingText t row))
 
 -- ---- faces
@@ -32,12 +32,12 @@ isOfTwo kind =
 unfoldable pub isOfOne : ℕ → Bool
 isOfOne kind = (leb smallHole kind && leb kind deepInsideCorner) || eqb kind sheetSmallHole || eqb kind printSmallHole
 
-unfoldable pub facesOfRow : Part → Row → List FaceId
+unfoldable pub facesOfRow : Part → FaultRow → List FaceId
 facesOfRow t row =
     cond (isOfTwo (row .kind)) (idOf t (row .a) ∷ idOf t (row .b) ∷ [])
     (cond (isOfOne (row .kind)) (idOf t (row .a) ∷ []) (manyFaces t row))
 
-unfoldable pub faultOf : Part → Row → Fault
+unfoldable pub faultOf : Part → FaultRow → Fault
 faultOf t row =
     record {
       heading = record { severity = severityOf (row .severity); rule = ruleOf (row .kind); text = textOf t row };
@@ -47,7 +47,7 @@ faultOf t row =
 
 -- ---- good rows
 -- every number that the text prints is one that the decimal writer takes, so that its own digits are printed (`accepted-text` of num_text)
-unfoldable pub printedOf : Part → Row → Bool
+unfoldable pub printedOf : Part → FaultRow → Bool
 printedOf t row = cond (leb (row .kind) sharpInsideCorner) (machiningPrinted t row) (cond (leb (row .kind) holeNearEdge) (sheetPrinted row) (printingPrinted t row))
 
 -- what a is below: a hollow's is a polygon, that of every other kind a face, and 0 where the kind has none
@@ -55,7 +55,7 @@ unfoldable pub placesOf : Part → ℕ → ℕ
 placesOf t kind = cond (leb enclosedHollowSla kind) (t .polygons) (facesOf t)
 
 -- a row that a rule puts: 2,048 of its counts add up below 2 ^ 32
-pub record GoodRow (t : Part) (row : Row) : Type 0 where
+pub record GoodRow (t : Part) (row : FaultRow) : Type 0 where
   pub kind-from : 1 ≤ row .kind
   pub kind-to : row .kind ≤ lastKind
   pub severity-to : row .severity < 3

@@ -15,7 +15,7 @@ use Rattle.solid_ids.specs.Ids.{idOf}
 use Rattle.fault_row.specs.declared.fault.Severity.{Severity}
 use Rattle.fault_row.specs.declared.fault.Severity.the-variants.{Error, Warning}
 use Rattle.fault_row.specs.declared.fault.Rule.the-variants.{EnclosedHollow, FewLayers, Overhang, SmallHole, ThinWall, ThinnerThanALayer, ThinnerThanTheNozzle}
-use Rattle.fault_row.specs.declared.row.Row.{Row}
+use Rattle.fault_row.specs.declared.row.FaultRow.{FaultRow}
 use Rattle.fault_row.specs.Fault.{Fault, fault}
 use Rattle.fault_text.specs.Kind.{thinnerThanALayer, fewLayers, thinnerThanTheNozzle, printThinWall, printSmallHole, overhang, enclosedHollowSla, enclosedHollowSls}
 use Rattle.fault_text.specs.Text.{mm}
@@ -108,7 +108,7 @@ unfoldable pub enclosedHollowSlsFault : List FaceId → Float → Fault
 enclosedHollowSlsFault faces volume = fault Error EnclosedHollow (enclosedHollowSlsText volume) faces
 
 -- ---- of a row: x and y are what the kind's message prints and the job does not give
-unfoldable pub printingText : Part → Row → List ℕ
+unfoldable pub printingText : Part → FaultRow → List ℕ
 printingText t row =
     cond (eqb (row .kind) thinnerThanALayer) (thinnerThanALayerText (row .x) (t .job .print .layer))
     (cond (eqb (row .kind) fewLayers) (fewLayersText (row .x) (row .y) (t .job .print .layer))
@@ -120,7 +120,7 @@ printingText t row =
     (cond (eqb (row .kind) enclosedHollowSls) (enclosedHollowSlsText (row .x)) [])))))))
 
 -- the decimal writer takes every number that it prints
-unfoldable pub printingPrinted : Part → Row → Bool
+unfoldable pub printingPrinted : Part → FaultRow → Bool
 printingPrinted t row =
     cond (eqb (row .kind) thinnerThanALayer) (accepted (row .x) 2 && accepted (t .job .print .layer) 2)
     (cond (eqb (row .kind) fewLayers)

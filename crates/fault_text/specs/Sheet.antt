@@ -12,7 +12,7 @@ use Rattle.file_part.specs.Part.{Part}
 use Rattle.solid_ids.specs.Ids.{idOf}
 use Rattle.fault_row.specs.declared.fault.Severity.the-variants.{Error, Warning, Note}
 use Rattle.fault_row.specs.declared.fault.Rule.the-variants.{HoleTooClose, Material, NoMaterial, NotOneThickness, ShortFlange, SmallHole, TightBend}
-use Rattle.fault_row.specs.declared.row.Row.{Row}
+use Rattle.fault_row.specs.declared.row.FaultRow.{FaultRow}
 use Rattle.fault_row.specs.Fault.{Fault, fault}
 use Rattle.fault_text.specs.Kind.{noMaterial, material, notOneThickness, tightBend, shortFlange, sheetSmallHole, holeNearBend, holeNearEdge}
 use Rattle.fault_text.specs.Job.{nameOr}
@@ -96,7 +96,7 @@ unfoldable pub holeNearEdgeFault : Part → ℕ → ℕ → Float → Float → 
 holeNearEdgeFault t f g gap need = fault Warning HoleTooClose (holeNearEdgeText gap need) (idOf t f ∷ idOf t g ∷ [])
 
 -- ---- of a row: x, y and z are what the kind's message prints
-unfoldable pub sheetText : Part → Row → List ℕ
+unfoldable pub sheetText : Part → FaultRow → List ℕ
 sheetText t row =
     cond (eqb (row .kind) noMaterial) noMaterialText
     (cond (eqb (row .kind) material) (materialText t)
@@ -108,7 +108,7 @@ sheetText t row =
     (cond (eqb (row .kind) holeNearEdge) (holeNearEdgeText (row .x) (row .y)) [])))))))
 
 -- the decimal writer takes every number that it prints: three, none or two
-unfoldable pub sheetPrinted : Row → Bool
+unfoldable pub sheetPrinted : FaultRow → Bool
 sheetPrinted row =
     cond (eqb (row .kind) notOneThickness) (accepted (row .x) 2 && accepted (row .y) 2 && accepted (row .z) 2)
     (cond (eqb (row .kind) noMaterial) true

@@ -13,7 +13,7 @@ use crate::kind::SMALL_HOLE;
 use crate::kind::THIN_WALL;
 use crate::kind::TIGHT_INSIDE_RADIUS;
 use crate::text::put_mm;
-use fault_row::row::Row;
+use fault_row::row::FaultRow;
 use num_text::decimal::put_decimal;
 use num_text::put::put_bytes;
 
@@ -120,7 +120,7 @@ pub(crate) fn put_sharp_inside_corner(out: &mut [u8], at: usize, length: f64, fi
 }
 
 // The text of a row of machining; nothing for another.
-pub(crate) fn put_machining(out: &mut [u8], at: usize, file: &[u8], row: Row) -> usize
+pub(crate) fn put_machining(out: &mut [u8], at: usize, file: &[u8], row: FaultRow) -> usize
     requires { ⌜ Checked (now file) ⌝ }
     ensures { λ r. ⌜ Put (now (out .entry)) at (machiningText (partOf (now (file .entry))) row) (now (out .exit)) r ⌝ }
 {

@@ -8,10 +8,10 @@ use crate::kind::SHARP_INSIDE_CORNER;
 use crate::machining::put_machining;
 use crate::printing::put_printing;
 use crate::sheet::put_sheet_metal;
-use fault_row::row::Row;
+use fault_row::row::FaultRow;
 
 // The text of any row, from the position `at` on. The position after it.
-pub fn put_message(out: &mut [u8], at: usize, file: &[u8], row: Row) -> usize
+pub fn put_message(out: &mut [u8], at: usize, file: &[u8], row: FaultRow) -> usize
     requires { ⌜ Checked (now file) ⌝ }
     ensures { λ r. ⌜ Put (now (out .entry)) at (textOf (partOf (now (file .entry))) row) (now (out .exit)) r ⌝ }
 {

@@ -14,7 +14,7 @@ use crate::kind::PRINT_THIN_WALL;
 use crate::kind::THINNER_THAN_A_LAYER;
 use crate::kind::THINNER_THAN_THE_NOZZLE;
 use crate::text::put_mm;
-use fault_row::row::Row;
+use fault_row::row::FaultRow;
 use file_job::Process;
 use num_text::decimal::put_decimal;
 use num_text::put::put_bytes;
@@ -151,7 +151,7 @@ fn put_enclosed_hollow_sls(out: &mut [u8], at: usize, volume: f64) -> usize
 }
 
 // The text of a row of printing; nothing for another.
-pub(crate) fn put_printing(out: &mut [u8], at: usize, file: &[u8], row: Row) -> usize
+pub(crate) fn put_printing(out: &mut [u8], at: usize, file: &[u8], row: FaultRow) -> usize
     requires { ⌜ Checked (now file) ⌝ }
     ensures { λ r. ⌜ Put (now (out .entry)) at (printingText (partOf (now (file .entry))) row) (now (out .exit)) r ⌝ }
 {

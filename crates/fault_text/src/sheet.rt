@@ -14,7 +14,7 @@ use crate::kind::SHEET_SMALL_HOLE;
 use crate::kind::SHORT_FLANGE;
 use crate::kind::TIGHT_BEND;
 use crate::text::put_mm;
-use fault_row::row::Row;
+use fault_row::row::FaultRow;
 use num_text::number::put_thousandths;
 use num_text::put::put_bytes;
 
@@ -131,7 +131,7 @@ fn put_hole_too_close(out: &mut [u8], at: usize, what: &[u8], gap: f64, need: f6
 }
 
 // The text of a row of sheet metal; nothing for another.
-pub(crate) fn put_sheet_metal(out: &mut [u8], at: usize, file: &[u8], row: Row) -> usize
+pub(crate) fn put_sheet_metal(out: &mut [u8], at: usize, file: &[u8], row: FaultRow) -> usize
     requires { ⌜ Checked (now file) ⌝ }
     ensures { λ r. ⌜ Put (now (out .entry)) at (sheetText (partOf (now (file .entry))) row) (now (out .exit)) r ⌝ }
 {

@@ -23,7 +23,7 @@ use Rattle.wall_ray.specs.Strike.{e-9}
 use Rattle.measure_sizes.specs.Reading.{ReadingBounds}
 use Rattle.wall_pairs.specs.declared.NextWall.{NextWall}
 use Rattle.fault_row.specs.declared.fault.Severity.the-variants.{Error, Warning}
-use Rattle.fault_row.specs.declared.row.Row.{Row}
+use Rattle.fault_row.specs.declared.row.FaultRow.{FaultRow}
 use Rattle.fault_row.specs.Names.{severityRank}
 use Rattle.fault_row.specs.Fault.{Fault}
 use Rattle.fault_row.specs.Row.{row, RowPut}
@@ -76,7 +76,7 @@ module _ {rule : Part → ℕ → ℕ → Float → List Fault} {p : PrintSettin
         put = λ s ok same a b bounds. faults-same (sym (finds s same)) (faults-none from cells numbers);
       }
 
-  one-put : {cells′ : List ℕ} {numbers′ : List Float} {r : ℕ} {w row : Row} (fault : Part → Fault) →
+  one-put : {cells′ : List ℕ} {numbers′ : List Float} {r : ℕ} {w row : FaultRow} (fault : Part → Fault) →
       ((s : List ℕ) → p ≡ partOf s .job .print → rule (partOf s) (faces .first) (faces .second) x ≡ fault (partOf s) ∷ []) →
       ((s : List ℕ) → p ≡ partOf s .job .print → faultOf (partOf s) row ≡ fault (partOf s)) →
       ((s : List ℕ) → Checked s → p ≡ partOf s .job .print → faces .first < facesOf (partOf s) → faces .second < facesOf (partOf s) → ReadingBounds x → GoodRow (partOf s) row) →
@@ -136,7 +136,7 @@ module _ {p : PrintSettings} {faces : NextWall} {x : Float} {from : ℕ} {cells 
   unfolding sideFault
   side-none n is above h = none-put (λ s same. rw (nozzle-test p (partOf s .job .print) x false same (sym is ∙ above), wall-test p (partOf s .job .print) x false same h))
 
-module _ {p : PrintSettings} {faces : NextWall} {x : Float} {from r : ℕ} {w : Row} {cells cells′ : List ℕ} {numbers numbers′ : List Float} where
+module _ {p : PrintSettings} {faces : NextWall} {x : Float} {from r : ℕ} {w : FaultRow} {cells cells′ : List ℕ} {numbers numbers′ : List Float} where
   -- ---- a floor or roof
   pub floor-layer : lt x (mul binary64 (ofBits binary64 0x4000_0000_0000_0000) (p .layer)) ≡ true → lt (add binary64 x e-9) (p .layer) ≡ true →
       w ≡ row thinnerThanALayer 0 1 (faces .first) (faces .second) 0 x zero zero → RowPut from w cells cells′ numbers numbers′ r → WallPut floorFault p faces x from cells cells′ numbers numbers′ r

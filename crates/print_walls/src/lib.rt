@@ -16,7 +16,7 @@ ghost use Rattle.fault_text.specs.Meaning.{faultOf, GoodRow};
 ghost use Rattle.print_walls.specs.Walls.{ninety-nine, thinnestOf, floorFault, sideFault, printWalls};
 ghost use Rattle.print_walls.specs.Work.{withSample, underNozzle, severityNumber, faultBy, WallPut};
 use fault_row::row::ERROR;
-use fault_row::row::Row;
+use fault_row::row::FaultRow;
 use fault_row::row::WARNING;
 use fault_row::row::put_row;
 use fault_text::job::job_of;
@@ -107,11 +107,11 @@ fn thinnest_reading(
 }
 
 // The row of a wall between two faces.
-fn wall_row(faces: NextWall, kind: u32, severity: u32, x: f64, y: f64) -> Row
+fn wall_row(faces: NextWall, kind: u32, severity: u32, x: f64, y: f64) -> FaultRow
     requires { ⌜ faces .first < 4294967296 ⌝ ∗ ⌜ faces .second < 4294967296 ⌝ }
     ensures { λ r. ⌜ r ≡ row kind severity 1 (faces .first) (faces .second) 0 x y zero ⌝ }
 {
-    Row {
+    FaultRow {
         kind: kind,
         severity: severity,
         count: 1,

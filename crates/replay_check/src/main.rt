@@ -1,7 +1,9 @@
-// Replays the fixed list of part files through the check, and prints each answer as the program prints it. On standard input a file stands after six
-// u32: the length of what follows, then how many u32 and f64 of scratch, u32 and f64 of fault rows, and report bytes are lent; then the file, packed.
+// Replays the fixed list of part files through the check, and prints each answer as the program prints it. On standard input a file stands after five
+// u32: the length of what follows, then how many u32 and f64 of scratch, fault rows (512 or none) and report bytes are lent; then the file, packed.
 ghost use Prim.Native.Nat.{_≤_};
-use dfm::check::check;
+use dfm_core::answer::Answer;
+use dfm_own::check_own;
+use dfm_own::check_rowless;
 use dfm_print::print_answer;
 use file_field::read::u32_at;
 use libc::STDIN_FILENO;
@@ -17,18 +19,13 @@ const WORDS: usize = 6_432;
 
 const REALS: usize = 7_456;
 
-const CELLS: usize = 3_072;
-
-const NUMBERS: usize = 1_536;
-
 const REPORT: usize = 65_536;
 
 // How much of each slice is lent.
 struct Lent {
     words: usize,
     reals: usize,
-    cells: usize,
-    numbers: usize,
+    rows: usize,
     report: usize,
 }
 
@@ -42,27 +39,30 @@ fn lesser(a: usize, b: usize) -> usize
     b
 }
 
-// Checks a file with so much lent.
-fn answer(
+// Checks a file with 512 fault rows, or with none.
+fn check_with(
     file: &[u8],
     words: &mut [u32],
     reals: &mut [f64],
-    cells: &mut [u32],
-    numbers: &mut [f64],
+    rows: usize,
     report: &mut [u8],
-    lent: Lent,
-) {
+) -> Answer {
+    if rows == 0 {
+        return check_rowless(file, words, reals, report);
+    }
+    check_own(file, words, reals, report)
+}
+
+// Checks a file with so much lent, and prints the answer.
+fn answer(file: &[u8], words: &mut [u32], reals: &mut [f64], report: &mut [u8], lent: Lent) {
     let w = lesser(lent.words, words.len());
     let r = lesser(lent.reals, reals.len());
-    let c = lesser(lent.cells, cells.len());
-    let n = lesser(lent.numbers, numbers.len());
     let b = lesser(lent.report, report.len());
-    let answer = check(
+    let answer = check_with(
         file,
         &mut words[..w],
         &mut reals[..r],
-        &mut cells[..c],
-        &mut numbers[..n],
+        lent.rows,
         &mut report[..b],
     );
     print_answer(answer, report);
@@ -72,18 +72,8 @@ fn answer(
 fn replay_file(file: &[u8], lent: Lent) {
     let mut words = [0u32; WORDS];
     let mut reals = [0.0f64; REALS];
-    let mut cells = [0u32; CELLS];
-    let mut numbers = [0.0f64; NUMBERS];
     let mut report = [0u8; REPORT];
-    answer(
-        file,
-        &mut words,
-        &mut reals,
-        &mut cells,
-        &mut numbers,
-        &mut report,
-        lent,
-    );
+    answer(file, &mut words, &mut reals, &mut report, lent);
 }
 
 // Replays a file that is packed in n bytes; false where there are not so many.
@@ -105,16 +95,15 @@ fn replay(file: &mut [u8], packed: &mut [u8], n: usize, lent: Lent) -> bool {
 
 // Replays the next file; false where there is none.
 fn replay_next(file: &mut [u8; LONGEST], packed: &mut [u8; LONGEST_PACKED]) -> bool {
-    let mut head = [0u8; 24];
-    if io::read_full(STDIN_FILENO, &mut head) < 24 {
+    let mut head = [0u8; 20];
+    if io::read_full(STDIN_FILENO, &mut head) < 20 {
         return false;
     }
     let lent = Lent {
         words: u32_at(&head, 4) as usize,
         reals: u32_at(&head, 8) as usize,
-        cells: u32_at(&head, 12) as usize,
-        numbers: u32_at(&head, 16) as usize,
-        report: u32_at(&head, 20) as usize,
+        rows: u32_at(&head, 12) as usize,
+        report: u32_at(&head, 16) as usize,
     };
     replay(file, packed, u32_at(&head, 0) as usize, lent)
 }

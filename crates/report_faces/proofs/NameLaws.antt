@@ -20,7 +20,7 @@ use Rattle.scratch.specs.Standing.{Placed, Words}
 use Rattle.scratch.proofs.StandingLaws.{placed-polygons}
 use Rattle.sheet_thickness.specs.Thickness.{isOffFace}
 use Rattle.print_overhang.specs.Overhang.{isOverhang}
-use Rattle.fault_row.specs.declared.row.Row.{Row}
+use Rattle.fault_row.specs.declared.row.FaultRow.{FaultRow}
 use Rattle.fault_text.specs.Kind.{notOneThickness, overhang, enclosedHollowSla, enclosedHollowSls}
 use Rattle.fault_text.specs.Meaning.{isOfTwo, isOfOne, facesOfRow, placesOf, GoodRow}
 use Rattle.fault_text.specs.Many.{idsTo, faceOfBody, hollowFaces, offFaces, overhangFaces, manyFaces}
@@ -34,11 +34,11 @@ use Rattle.report_faces.proofs.CellLaws.{of-two-low, of-one-low}
 use Rattle.report_faces.proofs.IdsLaws.{ids-whole, ids-sound, ids-rising}
 
 -- whether face f is one of a row of many, by the part
-unfoldable pub manyTest : Part → Row → ℕ → Bool
+unfoldable pub manyTest : Part → FaultRow → ℕ → Bool
 manyTest t row f =
     cond (eqb (row .kind) notOneThickness) (isOffFace t f) (cond (eqb (row .kind) overhang) (isOverhang t f) (faceOfBody t (row .a) f))
 
-pub many-ids : (t : Part) (row : Row) → isMany (row .kind) ≡ true → manyFaces t row ≡ idsTo t (manyTest t row) (facesOf t)
+pub many-ids : (t : Part) (row : FaultRow) → isMany (row .kind) ≡ true → manyFaces t row ≡ idsTo t (manyTest t row) (facesOf t)
 unfolding isMany manyFaces manyTest hollowFaces offFaces overhangFaces
 many-ids t row e = go (eqb (row .kind) notOneThickness) (eqb (row .kind) overhang) (eqb (row .kind) enclosedHollowSla) (eqb (row .kind) enclosedHollowSls) e
   where
@@ -52,7 +52,7 @@ many-ids t row e = go (eqb (row .kind) notOneThickness) (eqb (row .kind) overhan
     go false false false true h = refl
     go false false false false h = absurd (contrary h refl)
 
-many-none : (t : Part) (row : Row) → isMany (row .kind) ≡ false → manyFaces t row ≡ []
+many-none : (t : Part) (row : FaultRow) → isMany (row .kind) ≡ false → manyFaces t row ≡ []
 unfolding isMany manyFaces
 many-none t row e = go (eqb (row .kind) notOneThickness) (eqb (row .kind) overhang) (eqb (row .kind) enclosedHollowSla) (eqb (row .kind) enclosedHollowSls) e
   where
@@ -64,7 +64,7 @@ many-none t row e = go (eqb (row .kind) notOneThickness) (eqb (row .kind) overha
     go false false false false h = refl
 
 -- a row that is not of many names all its faces itself
-pub own-all : (t : Part) (row : Row) → isMany (row .kind) ≡ false → ownFaces t row ≡ facesOfRow t row
+pub own-all : (t : Part) (row : FaultRow) → isMany (row .kind) ≡ false → ownFaces t row ≡ facesOfRow t row
 unfolding ownFaces facesOfRow
 own-all t row e =
     ap (λ (z : List FaceId). cond (isOfTwo (row .kind)) (idOf t (row .a) ∷ idOf t (row .b) ∷ []) (cond (isOfOne (row .kind)) (idOf t (row .a) ∷ []) z)) (sym (many-none t row e))
@@ -101,13 +101,13 @@ many-of-one kind e = go kind (eqb kind notOneThickness) (eqb kind overhang) (eqb
     go k false false false false a b c d h = absurd (contrary h refl)
 
 -- the faces of a row of many rise
-pub many-rising : (t : Part) (row : Row) → isMany (row .kind) ≡ true → Ordered Lower (facesOfRow t row)
+pub many-rising : (t : Part) (row : FaultRow) → isMany (row .kind) ≡ true → Ordered Lower (facesOfRow t row)
 unfolding facesOfRow
 many-rising t row e =
     rw (many-of-two (row .kind) e, many-of-one (row .kind) e) (subst (Ordered Lower) (sym (many-ids t row e)) (ids-rising t (manyTest t row)))
 
 -- ---- faces that a row names are there
-pub good-fits : (t : Part) (m : ℕ) (row : Row) → m ≡ facesOf t → GoodRow t row → Fits m row
+pub good-fits : (t : Part) (m : ℕ) (row : FaultRow) → m ≡ facesOf t → GoodRow t row → Fits m row
 unfolding placesOf
 good-fits t m row e good =
     record {
@@ -125,7 +125,7 @@ module _ (s : List ℕ) (at : Regions) (words : List ℕ) (placed : Placed s at)
       sym (part-place (at .faces) (at .readings) words 0 p (omega (arith, l, placed .laid)))
       ∙ body .faces .numbers .each p (omega (arith, l, placed-polygons s at placed))
 
-  module _ (row : Row) (told : Told t at words row) where
+  module _ (row : FaultRow) (told : Told t at words row) where
     flag-is : (b : Bool) → eqb (cond b 1 0) 1 ≡ b
     flag-is true = refl
     flag-is false = refl

@@ -12,7 +12,7 @@ use Rattle.solid_ids.specs.Ids.{idOf}
 use Rattle.solid_bodies.specs.Body.{someBelow}
 use Rattle.scratch.specs.declared.regions.Regions.{Regions}
 use Rattle.scratch.specs.Regions.{Laid}
-use Rattle.fault_row.specs.declared.row.Row.{Row}
+use Rattle.fault_row.specs.declared.row.FaultRow.{FaultRow}
 use Rattle.fault_row.specs.Row.{rowAt}
 use Rattle.fault_text.specs.Kind.{notOneThickness, overhang, enclosedHollowSla, enclosedHollowSls}
 use Rattle.fault_text.specs.Meaning.{isOfTwo, isOfOne}
@@ -23,12 +23,12 @@ unfoldable pub isMany : ℕ → Bool
 isMany kind = eqb kind notOneThickness || (eqb kind overhang || (eqb kind enclosedHollowSla || eqb kind enclosedHollowSls))
 
 -- the faces that a row names itself
-unfoldable pub ownFaces : Part → Row → List FaceId
+unfoldable pub ownFaces : Part → FaultRow → List FaceId
 ownFaces t row =
     cond (isOfTwo (row .kind)) (idOf t (row .a) ∷ idOf t (row .b) ∷ []) (cond (isOfOne (row .kind)) (idOf t (row .a) ∷ []) [])
 
 -- faces that a row names are there
-pub record Fits (m : ℕ) (row : Row) : Type 0 where
+pub record Fits (m : ℕ) (row : FaultRow) : Type 0 where
   pub a-there : row .kind < enclosedHollowSla → row .a < m
   pub b-there : row .b < m
 
@@ -44,12 +44,12 @@ pub record Cells (at : Regions) (m : ℕ) (words : List ℕ) : Type 0 where
   pub faces : (p : ℕ) → p < at .polygons → getD words (at .faces + p) 0 < m
 
 -- face f, of a row whose faces are many: by its flag, or by the bodies of its polygons
-unfoldable pub namesMany : List ℕ → Regions → Row → ℕ → Bool
+unfoldable pub namesMany : List ℕ → Regions → FaultRow → ℕ → Bool
 namesMany words at row f =
     cond (ltb (row .kind) enclosedHollowSla) (eqb (getD words (at .order + f) 0) 1)
     (someBelow (at .polygons) (λ p. eqb (getD words (at .faces + p) 0) f && eqb (getD words p 0) (row .a)))
 
-unfoldable pub namesIn : List ℕ → Regions → Row → ℕ → Bool
+unfoldable pub namesIn : List ℕ → Regions → FaultRow → ℕ → Bool
 namesIn words at row f =
     cond (isOfTwo (row .kind)) (isEither (row .a) (row .b) f)
     (cond (isOfOne (row .kind)) (isSame (row .a) f) (cond (isMany (row .kind)) (namesMany words at row f) false))

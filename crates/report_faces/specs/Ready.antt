@@ -14,7 +14,7 @@ use Rattle.solid_ranks.specs.Kept.{Ranked}
 use Rattle.sheet_thickness.specs.Kept.{OffFaces}
 use Rattle.print_overhang.specs.Overhang.{leanOf}
 use Rattle.print_overhang.specs.Kept.{Marks}
-use Rattle.fault_row.specs.declared.row.Row.{Row}
+use Rattle.fault_row.specs.declared.row.FaultRow.{FaultRow}
 use Rattle.fault_row.specs.Row.{rowAt}
 use Rattle.fault_text.specs.Kind.{notOneThickness, overhang, enclosedHollowSla, enclosedHollowSls}
 use Rattle.fault_merge.specs.Rows.{Rows}
@@ -22,7 +22,7 @@ use Rattle.fault_merge.specs.Merged.{Merged}
 use Rattle.report_faces.specs.declared.marks.Listing.{Listing}
 
 -- the scratch tells the faces of a row that has many: the marks that its rule left, or the bodies
-pub record Told (t : Part) (at : Regions) (words : List ℕ) (row : Row) : Type 0 where
+pub record Told (t : Part) (at : Regions) (words : List ℕ) (row : FaultRow) : Type 0 where
   pub off : row .kind ≡ notOneThickness → OffFaces t at words
   pub over : row .kind ≡ overhang → Marks t (leanOf t) at words
   pub hollow : (row .kind ≡ enclosedHollowSla) ⊎ (row .kind ≡ enclosedHollowSls) → at .bodies ≡ true

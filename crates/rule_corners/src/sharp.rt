@@ -15,7 +15,7 @@ use crate::corner::Corner;
 use crate::corner::Counts;
 use crate::corner::corner_of;
 use crate::corner::next_corner;
-use fault_row::row::Row;
+use fault_row::row::FaultRow;
 use fault_row::row::WARNING;
 use fault_row::row::put_row;
 use fault_text::kind::SHARP_INSIDE_CORNER;
@@ -73,7 +73,7 @@ fn put_sharp(
     if is_reached(file, words, reals, at, c) {
         return group.before;
     }
-    let row = Row {
+    let row = FaultRow {
         kind: SHARP_INSIDE_CORNER,
         severity: WARNING,
         count: 1,

@@ -14,7 +14,7 @@ use crate::legs::flanges;
 use crate::legs::leg_at;
 use crate::reach::Line;
 use crate::reach::face_reach;
-use fault_row::row::Row;
+use fault_row::row::FaultRow;
 use fault_row::row::WARNING;
 use fault_row::row::put_row;
 use fault_text::kind::SHORT_FLANGE;
@@ -65,7 +65,7 @@ fn put_flange(
 {
     let min_flange = 4.0 * thick;
     if reach + 1e-9 < min_flange {
-        let row = Row {
+        let row = FaultRow {
             kind: SHORT_FLANGE,
             severity: WARNING,
             count: 1,

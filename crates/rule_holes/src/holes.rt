@@ -16,7 +16,7 @@ use crate::name::is_named;
 use crate::nearest::Nearest;
 use crate::nearest::nearest_of;
 use crate::nearest::put_plates;
-use fault_row::row::Row;
+use fault_row::row::FaultRow;
 use fault_row::row::WARNING;
 use fault_row::row::put_row;
 use fault_text::kind::HOLE_NEAR_BEND;
@@ -86,7 +86,7 @@ fn put_small_hole(
 {
     let d = 2.0 * hole.radius;
     if d + 1e-9 < least {
-        let row = Row {
+        let row = FaultRow {
             kind: SHEET_SMALL_HOLE,
             severity: WARNING,
             count: 1,
@@ -126,7 +126,7 @@ fn put_close(
 {
     let gap = nearest.gap;
     if gap + 1e-9 < need {
-        let row = Row {
+        let row = FaultRow {
             kind: kind_of(near_bend),
             severity: WARNING,
             count: 1,

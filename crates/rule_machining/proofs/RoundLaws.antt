@@ -23,7 +23,7 @@ use Rattle.wall_pairs.specs.declared.Counts.{Counts}
 use Rattle.wall_pairs.specs.Kept.{Counted}
 use Rattle.measure_sizes.specs.Round.{diameterOf, ratioOf, RoundBounds}
 use Rattle.measure_sizes.proofs.Rounds.{round-bounds}
-use Rattle.fault_row.specs.declared.row.Row.{Row}
+use Rattle.fault_row.specs.declared.row.FaultRow.{FaultRow}
 use Rattle.fault_row.specs.Fault.{Fault}
 use Rattle.fault_row.specs.Row.{row, RowPut}
 use Rattle.fault_row.specs.Faults.{FaultsPut}
@@ -76,7 +76,7 @@ module _ {round : Round} {cells : List ℕ} {numbers : List Float} {from : ℕ} 
 
 -- ---- one fault, and the rules by what the round is
 module _ {round : Round} {cells cells′ : List ℕ} {numbers numbers′ : List Float} {from r : ℕ} where
-  one-put : (rule : Part → Round → List Fault) (f : Part → Fault) (w : Row) → ((t : Part) → rule t round ≡ f t ∷ []) → RowPut from w cells cells′ numbers numbers′ r →
+  one-put : (rule : Part → Round → List Fault) (f : Part → Fault) (w : FaultRow) → ((t : Part) → rule t round ≡ f t ∷ []) → RowPut from w cells cells′ numbers numbers′ r →
       ((t : Part) → faultOf t w ≡ f t) → ((t : Part) → round .face < facesOf t → RoundBounds round → GoodRow t w) → RoundPut rule 1 round from cells cells′ numbers numbers′ r
   one-put rule f w e p means good =
       record { few = omega (arith, p .count); put = λ t low b. faults-same (sym (e t)) (faults-one (f t) p (means t) (good t low b)) }

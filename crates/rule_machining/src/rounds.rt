@@ -10,8 +10,8 @@ ghost use Rattle.fault_text.specs.Meaning.{faultOf, GoodRow};
 ghost use Rattle.rule_machining.specs.Machining.{smallHoles, deepHoles, tightRadii, deepCorners, holeFaults, insideFaults, roundFaults, roundsFaults};
 ghost use Rattle.rule_machining.specs.Work.{RoundPut};
 use crate::Given;
+use fault_row::row::FaultRow;
 use fault_row::row::NOTE;
-use fault_row::row::Row;
 use fault_row::row::WARNING;
 use fault_row::row::put_row;
 use fault_text::kind::DEEP_HOLE_MAX;
@@ -37,7 +37,7 @@ fn put_small_hole(cells: &mut [u32], numbers: &mut [f64], from: usize, round: Ro
 {
     let d = 2.0 * round.radius;
     if d < MIN_DRILL {
-        let row = Row {
+        let row = FaultRow {
             kind: SMALL_HOLE,
             severity: WARNING,
             count: 1,
@@ -61,7 +61,7 @@ fn put_deep_hole(cells: &mut [u32], numbers: &mut [f64], from: usize, round: Rou
     let d = 2.0 * round.radius;
     let ratio = round.length / d;
     if ratio > MAX_REACH {
-        let row = Row {
+        let row = FaultRow {
             kind: DEEP_HOLE_MAX,
             severity: WARNING,
             count: 1,
@@ -75,7 +75,7 @@ fn put_deep_hole(cells: &mut [u32], numbers: &mut [f64], from: usize, round: Rou
         return put_row(cells, numbers, from, row);
     }
     if ratio > STANDARD_REACH {
-        let row = Row {
+        let row = FaultRow {
             kind: DEEP_HOLE_STANDARD,
             severity: NOTE,
             count: 1,
@@ -97,7 +97,7 @@ fn put_tight_radius(cells: &mut [u32], numbers: &mut [f64], from: usize, round: 
     ensures { λ r. ⌜ RoundPut tightRadii 1 round from (now (cells .entry)) (now (cells .exit)) (now (numbers .entry)) (now (numbers .exit)) r ⌝ }
 {
     if round.radius < MIN_MILL_RADIUS {
-        let row = Row {
+        let row = FaultRow {
             kind: TIGHT_INSIDE_RADIUS,
             severity: WARNING,
             count: 1,
@@ -120,7 +120,7 @@ fn put_deep_corner(cells: &mut [u32], numbers: &mut [f64], from: usize, round: R
 {
     let ratio = round.length / (2.0 * round.radius);
     if ratio > STANDARD_REACH {
-        let row = Row {
+        let row = FaultRow {
             kind: DEEP_INSIDE_CORNER,
             severity: WARNING,
             count: 1,

@@ -14,7 +14,7 @@ ghost use Rattle.rule_machining.specs.Machining.{thinWalls};
 ghost use Rattle.rule_machining.specs.Work.{WallPut};
 use crate::Given;
 use fault_row::row::ERROR;
-use fault_row::row::Row;
+use fault_row::row::FaultRow;
 use fault_row::row::WARNING;
 use fault_row::row::put_row;
 use fault_text::job::min_wall;
@@ -46,7 +46,7 @@ fn put_thin_wall(
     ensures { λ r. ⌜ WallPut faces x wall from (now (cells .entry)) (now (cells .exit)) (now (numbers .entry)) (now (numbers .exit)) r ⌝ }
 {
     if x < wall {
-        let row = Row {
+        let row = FaultRow {
             kind: THIN_WALL,
             severity: severity(x, wall),
             count: 1,

@@ -9,7 +9,7 @@ ghost use Rattle.fault_text.specs.Meaning.{faultOf, GoodRow};
 ghost use Rattle.rule_printing.specs.Rules.{hollows, trapsHollows, isSls};
 ghost use Rattle.rule_printing.specs.Work.{HollowPut};
 use fault_row::row::ERROR;
-use fault_row::row::Row;
+use fault_row::row::FaultRow;
 use fault_row::row::WARNING;
 use fault_row::row::put_row;
 use fault_text::job::job_of;
@@ -54,7 +54,7 @@ fn put_hollow(
         return from;
     }
     if sls {
-        let row = Row {
+        let row = FaultRow {
             kind: ENCLOSED_HOLLOW_SLS,
             severity: ERROR,
             count: 1,
@@ -67,7 +67,7 @@ fn put_hollow(
         };
         return put_row(cells, numbers, from, row);
     }
-    let row = Row {
+    let row = FaultRow {
         kind: ENCLOSED_HOLLOW_SLA,
         severity: WARNING,
         count: 1,

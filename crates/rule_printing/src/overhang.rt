@@ -4,7 +4,7 @@ ghost use Prim.Native.Nat.{_<_};
 ghost use Rattle.file_part.specs.Part.{partOf};
 ghost use Rattle.print_overhang.specs.Overhang.{leanOf};
 ghost use Rattle.rule_printing.specs.Work.{OverhangPut, HeightsAre};
-use fault_row::row::Row;
+use fault_row::row::FaultRow;
 use fault_row::row::WARNING;
 use fault_row::row::put_row;
 use fault_text::kind::OVERHANG;
@@ -36,7 +36,7 @@ pub fn put_overhang(cells: &mut [u32], numbers: &mut [f64], from: usize, found: 
     if found.count == 0 {
         return from;
     }
-    let row = Row {
+    let row = FaultRow {
         kind: OVERHANG,
         severity: WARNING,
         count: found.count as u32,

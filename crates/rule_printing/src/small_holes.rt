@@ -9,7 +9,7 @@ ghost use Rattle.fault_row.specs.Faults.{FaultsPut};
 ghost use Rattle.fault_text.specs.Meaning.{faultOf, GoodRow};
 ghost use Rattle.rule_printing.specs.Rules.{printHoles};
 ghost use Rattle.rule_printing.specs.Work.{HolePut};
-use fault_row::row::Row;
+use fault_row::row::FaultRow;
 use fault_row::row::WARNING;
 use fault_row::row::put_row;
 use fault_text::job::job_of;
@@ -31,7 +31,7 @@ fn put_small_hole(
 {
     let d = 2.0 * hole.radius;
     if d + 1e-9 < least {
-        let row = Row {
+        let row = FaultRow {
             kind: PRINT_SMALL_HOLE,
             severity: WARNING,
             count: 1,

@@ -6,8 +6,8 @@ ghost use Rattle.fault_row.specs.Row.{row, RowPut};
 ghost use Rattle.rule_sheet.specs.Material.{isMetal, isFormed, ratioOf};
 ghost use Rattle.rule_sheet.specs.Work.{MaterialPut};
 use fault_row::row::ERROR;
+use fault_row::row::FaultRow;
 use fault_row::row::NOTE;
-use fault_row::row::Row;
 use fault_row::row::put_row;
 use fault_text::kind::MATERIAL;
 use fault_text::kind::NO_MATERIAL;
@@ -50,7 +50,7 @@ fn put_plain(cells: &mut [u32], numbers: &mut [f64], from: usize, kind: u32, sev
     requires { ⌜ from < 4294967296 ⌝ }
     ensures { λ r. ⌜ RowPut from (row kind severity 1 0 0 0 zero zero zero) (now (cells .entry)) (now (cells .exit)) (now (numbers .entry)) (now (numbers .exit)) r ⌝ }
 {
-    let row = Row {
+    let row = FaultRow {
         kind: kind,
         severity: severity,
         count: 1,

@@ -17,7 +17,7 @@ use crate::material::put_material;
 use crate::ready::make_ready;
 use crate::tight::put_tight_bends;
 use fault_row::row::ERROR;
-use fault_row::row::Row;
+use fault_row::row::FaultRow;
 use fault_row::row::put_row;
 use fault_row::summary::Found;
 use fault_row::summary::Summary;
@@ -40,7 +40,7 @@ fn put_uneven(cells: &mut [u32], numbers: &mut [f64], from: usize, found: Thickn
     requires { ⌜ from < 4294967296 ⌝ }
     ensures { λ r. ⌜ UnevenPut found from (now (cells .entry)) (now (cells .exit)) (now (numbers .entry)) (now (numbers .exit)) r ⌝ }
 {
-    let row = Row {
+    let row = FaultRow {
         kind: NOT_ONE_THICKNESS,
         severity: ERROR,
         count: 1,

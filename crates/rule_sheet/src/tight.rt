@@ -9,7 +9,7 @@ ghost use Rattle.rule_sheet.specs.Tight.{tightBends};
 ghost use Rattle.rule_sheet.specs.Work.{TightPut};
 use crate::material::ratio_of;
 use fault_row::row::ERROR;
-use fault_row::row::Row;
+use fault_row::row::FaultRow;
 use fault_row::row::put_row;
 use fault_text::job::job_of;
 use fault_text::kind::TIGHT_BEND;
@@ -31,7 +31,7 @@ fn put_tight_bend(
     ensures { λ r. ⌜ TightPut inner outer least from (now (cells .entry)) (now (cells .exit)) (now (numbers .entry)) (now (numbers .exit)) r ⌝ }
 {
     if inner.radius + 1e-9 < least {
-        let row = Row {
+        let row = FaultRow {
             kind: TIGHT_BEND,
             severity: ERROR,
             count: 1,

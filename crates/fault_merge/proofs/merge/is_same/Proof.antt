@@ -3,7 +3,7 @@ use borrow.Author.Needs.{needs}
 use mathlib.Core.Path.{sym, ap₂, subst, _∙_}
 use Prim.Native.Nat.{_<_}
 use Rattle.file_part.specs.Part.{partOf}
-use Rattle.fault_row.specs.declared.row.Row.{Row}
+use Rattle.fault_row.specs.declared.row.FaultRow.{FaultRow}
 use Rattle.fault_lines.specs.Line.{sameHeading}
 use Rattle.fault_merge.specs.Rows.{headingOf, headingAt}
 use Rattle.fault_merge.proofs.LeadLaws.{other-line}
@@ -31,13 +31,13 @@ row-at-requires-2 c κs = (omega (arith, c .before .before .before .before .befo
 same-heading-requires : tie.Need-same-heading-requires
 same-heading-requires c κs =
     let p = c .before .before .before .before .before .before .before .before .pre in
-    (p .0 .checked, (subst (λ (r : Row). r .severity < 3) (sym (c .before .row-at .ensures)) (p .0 .good (c .before .before .before .before .before .before .before .before .args .j) (omega (arith, p .1 .0)) .severity-to), subst (λ (r : Row). r .severity < 3) (sym (c .row-at2 .ensures)) (p .0 .good (c .before .before .before .before .before .before .before .before .args .i) (omega (arith, p .1 .0)) .severity-to)))
+    (p .0 .checked, (subst (λ (r : FaultRow). r .severity < 3) (sym (c .before .row-at .ensures)) (p .0 .good (c .before .before .before .before .before .before .before .before .args .j) (omega (arith, p .1 .0)) .severity-to), subst (λ (r : FaultRow). r .severity < 3) (sym (c .row-at2 .ensures)) (p .0 .good (c .before .before .before .before .before .before .before .before .args .i) (omega (arith, p .1 .0)) .severity-to)))
 
 returns-2 : tie.Need-returns-2
 unfolding headingAt
 returns-2 c =
     let t = partOf (c .before .before .before .before .before .before .before .before .before .args .file .now) in
-    c .same-heading .ensures ∙ ap₂ (λ (a b : Row). sameHeading (headingOf t a) (headingOf t b)) (c .before .before .row-at .ensures) (c .before .row-at2 .ensures)
+    c .same-heading .ensures ∙ ap₂ (λ (a b : FaultRow). sameHeading (headingOf t a) (headingOf t b)) (c .before .before .row-at .ensures) (c .before .row-at2 .ensures)
 
 pub is-same-spec : {M : Type 1} → statement M
 is-same-spec =

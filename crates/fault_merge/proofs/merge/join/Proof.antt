@@ -2,7 +2,7 @@
 use borrow.Author.Needs.{needs}
 use mathlib.Core.Path.{ap, _∙_}
 use Rattle.file_part.specs.Part.{partOf}
-use Rattle.fault_row.specs.declared.row.Row.{Row}
+use Rattle.fault_row.specs.declared.row.FaultRow.{FaultRow}
 use Rattle.fault_text.specs.Meaning.{textOf, faultOf}
 use Rattle.fault_merge.specs.Hash.{hashOf}
 use Rattle.fault_merge.specs.Rows.{headingAt}
@@ -23,7 +23,7 @@ unfolding headingAt faultOf
 lead-of-requires c κs =
     let g = c .before .before .before .before .before .before .before .args in
     let p = c .before .before .before .before .before .before .before .pre in
-    (p .0, (p .1 .0, (p .1 .1 .hashes, c .before .text-hash .ensures ∙ ap (λ (r : Row). hashOf (textOf (partOf (g .file .now)) r)) (c .before .before .row-at .ensures))))
+    (p .0, (p .1 .0, (p .1 .1 .hashes, c .before .text-hash .ensures ∙ ap (λ (r : FaultRow). hashOf (textOf (partOf (g .file .now)) r)) (c .before .before .row-at .ensures))))
 
 cast-put-cells : tie.Need-cast-put-cells
 cast-put-cells c =
@@ -40,7 +40,7 @@ add-requires c κs =
     let row = c .before .before .before .before .before .before .before .before .row-at in
     let lead = c .before .before .before .before .before .lead-of in
     let cells = c .before .before .before .put-cells in
-    let r = room-at (partOf (g .file .now)) (g .cells .now) (g .numbers .now) (g .i) (c .before .before .before .before .before .before .before .text-hash .result) (lead .result) (row .result .count) (g .work .now) (cells .last .0) (lead .ensures) (p .1 .1) (cells .ensures) (p .0 .few) (p .0 .good) (p .1 .0) (ap (λ (r : Row). r .count) (row .ensures)) in
+    let r = room-at (partOf (g .file .now)) (g .cells .now) (g .numbers .now) (g .i) (c .before .before .before .before .before .before .before .text-hash .result) (lead .result) (row .result .count) (g .work .now) (cells .last .0) (lead .ensures) (p .1 .1) (cells .ensures) (p .0 .few) (p .0 .good) (p .1 .0) (ap (λ (r : FaultRow). r .count) (row .ensures)) in
     (r .0, (r .1, r .2))
 
 returns : tie.Need-returns
@@ -52,7 +52,7 @@ returns c =
     let lead = c .before .before .before .before .before .before .before .before .lead-of in
     let cells = c .before .before .before .before .before .before .put-cells in
     let added = c .before .before .add in
-    (joined-at (partOf (g .file .now)) (g .cells .now) (g .numbers .now) (g .i) (c .before .before .before .before .before .before .before .before .before .before .text-hash .result) (lead .result) (row .result .count) (g .work .now) (cells .last .0) (lead .ensures) (p .1 .1) (cells .ensures) (added .last .0) (added .ensures) (c .before .before .before .before .before .before .before .before .before .before .text-hash .ensures ∙ ap (λ (r : Row). hashOf (textOf (partOf (g .file .now)) r)) (c .before .before .before .before .before .before .before .before .before .before .before .row-at .ensures)) (ap (λ (r : Row). r .count) (row .ensures)), added .ensures .long ∙ cells .ensures .long)
+    (joined-at (partOf (g .file .now)) (g .cells .now) (g .numbers .now) (g .i) (c .before .before .before .before .before .before .before .before .before .before .text-hash .result) (lead .result) (row .result .count) (g .work .now) (cells .last .0) (lead .ensures) (p .1 .1) (cells .ensures) (added .last .0) (added .ensures) (c .before .before .before .before .before .before .before .before .before .before .text-hash .ensures ∙ ap (λ (r : FaultRow). hashOf (textOf (partOf (g .file .now)) r)) (c .before .before .before .before .before .before .before .before .before .before .before .row-at .ensures)) (ap (λ (r : FaultRow). r .count) (row .ensures)), added .ensures .long ∙ cells .ensures .long)
 
 pub join-spec : {M : Type 1} → statement M
 join-spec =

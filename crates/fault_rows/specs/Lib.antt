@@ -1,0 +1,2 @@
+-- What a lent slice of fault rows holds.
+pub mod Rows
