@@ -56,6 +56,7 @@ mod timed;
 
 use best::best_of;
 use field::Blocks;
+use gablemadder::FaultRow;
 use job::{CNC, FDM, PROCESSES, SHEET, SLA, SLS};
 use oracle::check::Checked;
 use std::hint::black_box;
@@ -71,8 +72,7 @@ const SMALL: usize = 800;
 struct Lent {
     words: Vec<u32>,
     reals: Vec<f64>,
-    cells: Vec<u32>,
-    numbers: Vec<f64>,
+    rows: Vec<FaultRow>,
     report: Vec<u8>,
 }
 
@@ -82,8 +82,7 @@ impl Lent {
         Lent {
             words: vec![0; checked.words],
             reals: vec![0.0; checked.reals],
-            cells: vec![0; 6 * rows],
-            numbers: vec![0.0; 3 * rows],
+            rows: vec![FaultRow::default(); rows],
             report: vec![0; REPORT],
         }
     }
@@ -91,15 +90,14 @@ impl Lent {
     /// The length of the report.
     fn check(&mut self, file: &[u8]) -> usize {
         let mut written = 0;
-        let answer = gablemadder::check(file, &mut self.words, &mut self.reals, &mut self.cells, &mut self.numbers, &mut self.report, &mut written);
+        let answer = gablemadder::check(file, &mut self.words, &mut self.reals, &mut self.rows, &mut self.report, &mut written);
         assert_eq!(answer, 0, "an accepted file");
         written
     }
 
     /// Lent one row too few for so many faults: refusal 11, once all are found.
     fn find(&mut self, file: &[u8], faults: usize) -> u32 {
-        let (cells, numbers) = (&mut self.cells[..6 * (faults - 1)], &mut self.numbers[..3 * (faults - 1)]);
-        gablemadder::check(file, &mut self.words, &mut self.reals, cells, numbers, &mut self.report, &mut 0)
+        gablemadder::check(file, &mut self.words, &mut self.reals, &mut self.rows[..faults - 1], &mut self.report, &mut 0)
     }
 
     fn is_same(&mut self, part: &Timed, checked: &Checked) {

@@ -2,9 +2,8 @@
 use crate::gablemadder;
 use crate::lent::Lent;
 use crate::scratch::guard::{self, Guarded};
-use crate::scratch::Scratch;
 use crate::seen::Seen;
-use crate::sizes::{Sizes, REPORT, ROWS, SLICES};
+use crate::sizes::{Sizes, SLICES};
 use crate::tally::Tally;
 use oracle::check::Checked;
 use std::ops::Range;
@@ -22,7 +21,6 @@ pub struct Compare {
     /// The smallest file with a difference.
     pub smallest: Option<Vec<u8>>,
     pub lent: Lent,
-    report: Scratch<u8>,
     file: Guarded<u8>,
     at: Range<usize>,
     written: Guarded<usize>,
@@ -36,7 +34,6 @@ impl Compare {
             calls: 0,
             smallest: None,
             lent: Lent::new(seed),
-            report: Scratch::named("report"),
             file: Guarded::new("file"),
             at: 0..0,
             written: Guarded::new("written"),
@@ -111,8 +108,7 @@ impl Compare {
         let second = if self.lent.random.below(2) == 0 { first } else { needed.enough(&mut self.lent.random) };
         self.with(checked, first)?;
         self.with(checked, second)?;
-        let rows = ROWS[self.lent.random.below(2) as usize];
-        for slice in [0, 1, rows, REPORT] {
+        for slice in 0..SLICES.len() {
             let skipped = large && self.lent.random.below(4) != 0;
             if needed.0[slice] > 0 && !skipped {
                 let short = needed.short_of(&mut self.lent.random, slice);
@@ -132,17 +128,13 @@ impl Compare {
 
     /// A call over junk, and all that it has to leave.
     pub fn call(&mut self, sizes: Sizes, wanted: Result<&str, u32>) -> Result<(), String> {
-        let [words, reals, cells, numbers, report] = sizes.0;
-        self.lent.lend((words, reals), (cells, numbers), words / 8);
-        let random = &mut self.lent.random;
-        let kind = random.below(4) as usize;
-        self.report.lend(report, kind, 128, random);
-        let before = random.next() as usize;
+        self.lent.lend(sizes);
+        let before = self.lent.random.next() as usize;
         self.written[0] = before;
         self.calls += 1;
-        let Lent { words, reals, cells, numbers, .. } = &mut self.lent;
+        let Lent { words, reals, rows, report, .. } = &mut self.lent;
         let file = &self.file[self.at.clone()];
-        let ours = gablemadder::check(file, words.cells(), reals.cells(), cells.cells(), numbers.cells(), self.report.cells(), &mut self.written[0]);
+        let ours = gablemadder::check(file, words.cells(), reals.cells(), rows.cells(), report.cells(), &mut self.written[0]);
         let written = self.written[0];
         let theirs = wanted.err().unwrap_or(0);
         self.seen.answer(theirs);
@@ -156,7 +148,7 @@ impl Compare {
         self.is_left(theirs)?;
         match wanted {
             Ok(text) => self.is_report(text),
-            Err(_) if self.report.is_unchanged() => Ok(()),
+            Err(_) if self.lent.report.is_unchanged() => Ok(()),
             Err(_) => Err(format!("answers {ours} and changes the report")),
         }
     }
@@ -165,9 +157,9 @@ impl Compare {
     fn is_left(&self, number: u32) -> Result<(), String> {
         let lent = &self.lent;
         let as_wanted = if (1..=10).contains(&number) {
-            [lent.words.is_unchanged(), lent.reals.is_unchanged(), lent.cells.is_unchanged(), lent.numbers.is_unchanged()]
+            [lent.words.is_unchanged(), lent.reals.is_unchanged(), lent.rows.is_unchanged()]
         } else {
-            [lent.words.is_zero(), lent.reals.is_zero(), lent.cells.is_zero(), lent.numbers.is_zero()]
+            [lent.words.is_zero(), lent.reals.is_zero(), lent.rows.is_zero()]
         };
         match as_wanted.iter().position(|is| !is) {
             Some(k) => Err(format!("answers {number} and leaves something else in the {}", SLICES[k])),
@@ -178,10 +170,10 @@ impl Compare {
     /// The report in the first bytes, those after them unchanged.
     fn is_report(&mut self, text: &str) -> Result<(), String> {
         let n = text.len();
-        if !self.report.is_unchanged_past(n) {
+        if !self.lent.report.is_unchanged_past(n) {
             return Err(format!("changes bytes past the {n} of the report"));
         }
-        let ours = &self.report.cells()[..n];
+        let ours = &self.lent.report.cells()[..n];
         if ours == text.as_bytes() {
             return Ok(());
         }

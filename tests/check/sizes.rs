@@ -3,23 +3,17 @@ use crate::random::Random;
 use crate::shapes::pick;
 use oracle::check::{Checked, Lent};
 
-/// Cells and numbers of a fault row.
-const CELLS: usize = 6;
-const NUMBERS: usize = 3;
-
-/// The five slices, in the order of `Sizes`.
-pub const SLICES: [&str; 5] = ["words", "reals", "cells", "numbers", "report"];
-pub const ROWS: [usize; 2] = [2, 3];
-pub const REPORT: usize = 4;
+/// The four slices, in the order of `Sizes`.
+pub const SLICES: [&str; 4] = ["words", "reals", "rows", "report"];
 
 /// The length of each slice.
 #[derive(Clone, Copy, PartialEq, Debug)]
-pub struct Sizes(pub [usize; 5]);
+pub struct Sizes(pub [usize; 4]);
 
 impl Sizes {
     /// The least with which a part is accepted, where it has no more faults than there may be.
     pub fn needed(checked: &Checked) -> Sizes {
-        Sizes([checked.words, checked.reals, CELLS * checked.faults, NUMBERS * checked.faults, checked.text.len()])
+        Sizes([checked.words, checked.reals, checked.faults, checked.text.len()])
     }
 
     /// Of each just enough, or more.
@@ -44,13 +38,13 @@ impl Sizes {
     /// Anything, for a file that is turned back before its lengths count.
     pub fn any(random: &mut Random) -> Sizes {
         let most = pick(random, &[1, 64, 4000]);
-        Sizes([0; 5].map(|_| random.below(most) as usize))
+        Sizes([0; 4].map(|_| random.below(most) as usize))
     }
 
-    /// As the oracle takes them: as many rows are lent as both slices hold.
+    /// As the oracle takes them.
     pub fn lent(&self) -> Lent {
-        let [words, reals, cells, numbers, report] = self.0;
-        Lent { words, reals, rows: (cells / CELLS).min(numbers / NUMBERS), report }
+        let [words, reals, rows, report] = self.0;
+        Lent { words, reals, rows, report }
     }
 }
 

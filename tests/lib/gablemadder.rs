@@ -22,10 +22,8 @@ mod c {
             words_len: usize,
             reals: *mut f64,
             reals_len: usize,
-            cells: *mut u32,
-            cells_len: usize,
-            numbers: *mut f64,
-            numbers_len: usize,
+            rows: *mut super::FaultRow,
+            rows_len: usize,
             report: *mut u8,
             report_len: usize,
             written: *mut usize,
@@ -75,6 +73,23 @@ mod c {
         ) -> u32;
     }
 }
+
+/// A fault row. A row of zeros is no fault.
+#[repr(C)]
+#[derive(Clone, Copy, Default)]
+pub struct FaultRow {
+    pub kind: u32,
+    pub severity: u32,
+    pub count: u32,
+    pub a: u32,
+    pub b: u32,
+    pub waived: u32,
+    pub x: f64,
+    pub y: f64,
+    pub z: f64,
+}
+
+const _: () = assert!(std::mem::size_of::<FaultRow>() == 48 && std::mem::align_of::<FaultRow>() == 8);
 
 pub fn sqrt(x: f64) -> f64 {
     unsafe { c::gablemadder_sqrt(x) }
@@ -126,15 +141,14 @@ pub fn decimal(x: f64, places: u32, out: &mut [u8]) -> Result<usize, u32> {
 }
 
 /// 0, the report in the first bytes of `report` and their number in `written`; or the refusal from 1 to 12.
-pub fn check(file: &[u8], words: &mut [u32], reals: &mut [f64], cells: &mut [u32], numbers: &mut [f64], report: &mut [u8], written: &mut usize) -> u32 {
-    let (w, r, c, n, o) = (words.as_mut_ptr(), reals.as_mut_ptr(), cells.as_mut_ptr(), numbers.as_mut_ptr(), report.as_mut_ptr());
-    let (words, reals, cells, numbers) = (words.len(), reals.len(), cells.len(), numbers.len());
-    unsafe { c::gablemadder_check(file.as_ptr(), file.len(), w, words, r, reals, c, cells, n, numbers, o, report.len(), written) }
+pub fn check(file: &[u8], words: &mut [u32], reals: &mut [f64], rows: &mut [FaultRow], report: &mut [u8], written: &mut usize) -> u32 {
+    let (w, r, f, o) = (words.as_mut_ptr(), reals.as_mut_ptr(), rows.as_mut_ptr(), report.as_mut_ptr());
+    unsafe { c::gablemadder_check(file.as_ptr(), file.len(), w, words.len(), r, reals.len(), f, rows.len(), o, report.len(), written) }
 }
 
 /// The refusal from 1 to 9 that turns a part file back, or 10: it is lent nothing.
 pub fn refusal(file: &[u8]) -> u32 {
-    check(file, &mut [], &mut [], &mut [], &mut [], &mut [], &mut 0)
+    check(file, &mut [], &mut [], &mut [], &mut [], &mut 0)
 }
 
 pub fn put_bytes(out: &mut [u8], at: usize, s: &[u8]) -> usize {
