@@ -15,6 +15,7 @@ mod tree;
 mod triangles;
 mod vector;
 mod view;
+mod visible;
 mod write;
 
 use crate::part::Part;
@@ -241,4 +242,55 @@ fn document(title: &[String; 2], body: &str, end: f64) -> String {
          <text x=\"{left}\" y=\"56\" fill=\"#5b6672\">{second}</text>\n\
          {body}</svg>\n"
     )
+}
+
+#[cfg(test)]
+pub mod tests {
+    use super::*;
+    use crate::make;
+
+    /// Of the pixels that the part covers, how many show a facet that lies behind another.
+    pub fn wrong_pixels(part: &Part, from: [f64; 3]) -> (usize, usize) {
+        let mesh = Mesh::new(part);
+        let canvas = Canvas::new(&part.vertices, from, part.job.up, WIDTH, HEIGHTS, MARGINS);
+        let pieces = pieces(&mesh, &Flags::new(&[], mesh.faces.len()), &canvas);
+        let painted = order::sorted(pieces.clone());
+        raster::tests::wrongly_covered(&pieces, &painted, canvas.width, canvas.height)
+    }
+
+    fn example(name: &str) -> Part {
+        let path = format!("{}/../examples/parts/{name}.txt", env!("CARGO_MANIFEST_DIR"));
+        make::part(&std::fs::read(path).unwrap()).unwrap()
+    }
+
+    #[test]
+    fn nearer_faces_lie_over_farther_ones() {
+        for name in ["plate", "detent-plate", "bracket", "cover", "hollow-block"] {
+            let part = example(name);
+            let more = [[1.0, 0.1, 0.05], [0.3, -1.0, 0.4], [-0.2, 0.3, -1.0], [0.0, 0.0, 1.0]];
+            for from in view::candidates(part.job.up).into_iter().chain(more) {
+                let (wrong, all) = wrong_pixels(&part, from);
+                assert!(wrong == 0 && all > 1000, "{name} from {from:?}: {wrong} of {all}");
+            }
+        }
+    }
+
+    #[test]
+    fn so_they_do_where_polygons_cross() {
+        let job = "part 1\njob\nprocess CNC\nup 0 0 1\nlayer 0.2\nmin_wall 0.8\nmin_hole 2\n";
+        let mut seed = 1u64;
+        let mut coordinate = || {
+            seed = seed.wrapping_mul(6364136223846793005).wrapping_add(1442695040888963407);
+            (seed >> 40) % 1000
+        };
+        for count in [2, 8, 200] {
+            let mut text = job.to_string();
+            for i in 0..count {
+                let mut corner = || format!("{} {} {}\n", coordinate(), coordinate(), coordinate());
+                text.push_str(&format!("face 1:{i} plane\npolygon\n{}{}{}", corner(), corner(), corner()));
+            }
+            let (wrong, all) = wrong_pixels(&make::part(text.as_bytes()).unwrap(), [0.4, -0.7, 0.5]);
+            assert!(1000 * wrong <= all && all > 1000, "{count} triangles: {wrong} of {all}");
+        }
+    }
 }

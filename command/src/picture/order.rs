@@ -1,20 +1,37 @@
 //! In which order the pieces are painted: what lies farther first, so that the nearer covers it.
 use super::piece::{Cover, Piece};
 use super::tree;
+use super::visible;
 use std::collections::{BTreeMap, BTreeSet};
 
-/// With more pairs that cover each other the tree sorts all pieces at once.
+/// With more pairs that cover each other, no order is looked for.
 const MOST_PAIRS: usize = 600_000;
+/// Nor where more pieces cross each other or lie over each other in a ring.
+const MOST_IN_RING: usize = 24;
 
-/// The pieces from back to front. Where they cross each other, or each lies over the next in a ring, some are cut.
+/// The pieces from back to front. Where some cross each other, or each lies over the next in a ring, they are cut.
 pub fn sorted(pieces: Vec<Piece>) -> Vec<Piece> {
     let Some(above) = covered_by(&pieces) else {
-        return tree::sorted(pieces);
+        return visible::parts(pieces);
     };
-    let groups = rings(&above);
+    let ring = rings(&above);
+    match is_large(&ring) {
+        true => visible::parts(pieces),
+        false => painted(pieces, &above, ring),
+    }
+}
+
+fn is_large(ring: &[usize]) -> bool {
+    let mut sizes = vec![0; ring.len()];
+    ring.iter().for_each(|&r| sizes[r] += 1);
+    sizes.into_iter().any(|size| size > MOST_IN_RING)
+}
+
+/// The pieces ring by ring; those of a ring as the tree sorts them.
+fn painted(pieces: Vec<Piece>, above: &[Vec<usize>], ring: Vec<usize>) -> Vec<Piece> {
     let mut pieces: Vec<Option<Piece>> = pieces.into_iter().map(Some).collect();
     let mut all = vec![];
-    for members in group_order(&pieces, &above, groups) {
+    for members in group_order(&pieces, above, ring) {
         let group: Vec<Piece> = members.into_iter().filter_map(|i| pieces[i].take()).collect();
         all.extend(if group.len() > 1 { tree::sorted(group) } else { group });
     }

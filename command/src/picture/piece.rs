@@ -88,8 +88,33 @@ impl Piece {
     /// The parts on the viewer's side of a plane and beyond it.
     pub fn split(&self, plane: &Piece) -> (Option<Piece>, Option<Piece>) {
         let (near, far) = cut(&self.corners, |p| plane.above(p));
-        let part = |corners: Vec<Point>| if corners.len() < 3 { None } else { Piece::new(self.facet, self.colour, corners, self.normal) };
-        (part(near), part(far))
+        (self.part(near), self.part(far))
+    }
+
+    /// What is left of it where another piece hides a part; None where that hides nothing of it.
+    pub fn less(&self, over: &Piece) -> Option<Vec<Piece>> {
+        if self.lo[0] >= over.hi[0] || over.lo[0] >= self.hi[0] || self.lo[1] >= over.hi[1] || over.lo[1] >= self.hi[1] {
+            return None;
+        }
+        let mut left = vec![];
+        let mut under = self.corners.clone();
+        let nearer = |p: Point| over.depth(p[0], p[1]) - self.depth(p[0], p[1]) - SAME;
+        let mut keep = |measure: &dyn Fn(Point) -> f64| {
+            let (inside, outside) = cut(&under, measure);
+            left.push(outside);
+            under = inside;
+            under.len() > 2 && area(&under).abs() > SMALL
+        };
+        let hides = over.sides().all(|side| keep(&|p| -side.outside(p))) && keep(&nearer);
+        hides.then(|| left.into_iter().filter_map(|corners| self.part(corners)).collect())
+    }
+
+    /// The piece with other corners in its plane.
+    fn part(&self, corners: Vec<Point>) -> Option<Piece> {
+        if corners.len() < 3 {
+            return None;
+        }
+        Piece::new(self.facet, self.colour, corners, self.normal)
     }
 
     /// From where to where, between 0 and 1, the piece hides the way from a to b.
@@ -193,6 +218,19 @@ pub mod tests {
         assert!(matches!(ramp.compare(&far), Cover::Crossing));
         let (near, far) = ramp.split(&far);
         assert_eq!([near, far].map(|part| area(&part.unwrap().corners).abs()), [75.0, 25.0]);
+    }
+
+    #[test]
+    fn what_is_hidden_is_cut_off() {
+        let far = square(0, 0.0, 0.0, 1.0);
+        let areas = |parts: Vec<Piece>| parts.iter().map(|p| area(&p.corners).abs()).sum::<f64>();
+        assert_eq!(far.less(&square(1, 5.0, 5.0, 2.0)).map(areas), Some(75.0));
+        assert_eq!(far.less(&square(1, -1.0, 0.0, 2.0)).map(areas), Some(10.0));
+        assert_eq!(far.less(&square(1, 0.0, 0.0, 2.0)).map(areas), Some(0.0));
+        assert_eq!(far.less(&square(1, 5.0, 5.0, 0.0)).map(areas), None);
+        assert_eq!(far.less(&square(1, 10.0, 0.0, 2.0)).map(areas), None);
+        let ramp = piece(1, &[[0.0, 0.0, 0.0], [0.0, 10.0, 0.0], [10.0, 10.0, 4.0], [10.0, 0.0, 4.0]]);
+        assert_eq!(far.less(&ramp).map(|parts| areas(parts).round()), Some(25.0));
     }
 
     #[test]

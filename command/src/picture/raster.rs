@@ -31,15 +31,8 @@ impl Raster {
 
     /// Cells whose middle the piece covers become its face's, where nothing nearer is there.
     pub fn paint(&mut self, piece: &Piece, face: usize) {
-        let first = (piece.lo[1] / self.cell - 0.5).ceil().max(0.0) as usize;
-        for row in first..self.rows {
+        for (row, from, to) in rows(piece, self.columns, self.rows, self.cell) {
             let y = (row as f64 + 0.5) * self.cell;
-            if y > piece.hi[1] {
-                break;
-            }
-            let (left, right) = span(piece, y);
-            let from = (left / self.cell - 0.5).ceil().max(0.0) as usize;
-            let to = ((right / self.cell + 0.5).floor().max(0.0) as usize).min(self.columns);
             for column in from..to {
                 let depth = piece.depth((column as f64 + 0.5) * self.cell, y);
                 let i = row * self.columns + column;
@@ -48,6 +41,11 @@ impl Raster {
                 }
             }
         }
+    }
+
+    /// Whether the piece covers the middle of any cell.
+    pub fn holds(&self, piece: &Piece) -> bool {
+        rows(piece, self.columns, self.rows, self.cell).any(|(_, from, to)| from < to)
     }
 
     /// How many cells each of so many faces has.
@@ -82,6 +80,17 @@ impl Raster {
     }
 }
 
+/// The rows of a grid that a piece reaches, each with its columns from the first to before the last.
+fn rows(piece: &Piece, columns: usize, rows: usize, cell: f64) -> impl Iterator<Item = (usize, usize, usize)> + '_ {
+    let first = (piece.lo[1] / cell - 0.5).ceil().max(0.0) as usize;
+    let reached = (first..rows).take_while(move |&row| (row as f64 + 0.5) * cell <= piece.hi[1]);
+    reached.map(move |row| {
+        let (left, right) = span(piece, (row as f64 + 0.5) * cell);
+        let from = (left / cell - 0.5).ceil().max(0.0) as usize;
+        (row, from, ((right / cell + 0.5).floor().max(0.0) as usize).min(columns))
+    })
+}
+
 /// From where to where the piece covers a row.
 fn span(piece: &Piece, y: f64) -> (f64, f64) {
     let (mut left, mut right) = (f64::INFINITY, f64::NEG_INFINITY);
@@ -97,9 +106,25 @@ fn span(piece: &Piece, y: f64) -> (f64, f64) {
 }
 
 #[cfg(test)]
-mod tests {
+pub mod tests {
     use super::super::piece::tests::square;
     use super::*;
+
+    /// Of the pixels that any piece covers, how many show something farther than the nearest piece when the painted ones are laid over each other.
+    pub fn wrongly_covered(pieces: &[Piece], painted: &[Piece], width: f64, height: f64) -> (usize, usize) {
+        let mut raster = Raster::new(width, height, 1.0);
+        pieces.iter().for_each(|piece| raster.paint(piece, 0));
+        let mut last = vec![f64::NEG_INFINITY; raster.depths.len()];
+        for piece in painted {
+            for (row, from, to) in rows(piece, raster.columns, raster.rows, raster.cell) {
+                for column in from..to {
+                    last[row * raster.columns + column] = piece.depth(column as f64 + 0.5, row as f64 + 0.5);
+                }
+            }
+        }
+        let wrong = raster.depths.iter().zip(&last).filter(|(nearest, last)| **nearest > **last + 0.05).count();
+        (wrong, raster.faces.iter().flatten().count())
+    }
 
     #[test]
     fn the_nearer_face_is_seen() {

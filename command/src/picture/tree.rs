@@ -1,11 +1,8 @@
-//! Pieces sorted by planes: all that lies beyond a plane is painted before what lies on the viewer's side, and what crosses it is cut.
+//! A few pieces sorted by planes: all that lies beyond a plane is painted before what lies on the viewer's side, and what crosses it is cut.
 use super::piece::{Piece, SAME};
 
 /// How many planes are tried at each step.
 const TRIES: usize = 6;
-/// How many cuts there may be: so many, and some for each piece.
-const CUTS: usize = 200;
-const CUTS_EACH: usize = 2;
 
 enum Task {
     Sort(Vec<Piece>),
@@ -14,7 +11,6 @@ enum Task {
 
 /// From back to front. The nodes of the tree wait on a stack, so that no depth is too great.
 pub fn sorted(pieces: Vec<Piece>) -> Vec<Piece> {
-    let mut cuts = CUTS + CUTS_EACH * pieces.len();
     let mut stack = vec![Task::Sort(pieces)];
     let mut all = vec![];
     while let Some(task) = stack.pop() {
@@ -22,7 +18,7 @@ pub fn sorted(pieces: Vec<Piece>) -> Vec<Piece> {
             Task::Paint(pieces) => all.extend(pieces),
             Task::Sort(pieces) if pieces.len() < 2 => all.extend(pieces),
             Task::Sort(pieces) => {
-                let [far, on, near] = divided(pieces, &mut cuts);
+                let [far, on, near] = divided(pieces);
                 stack.extend([Task::Sort(near), Task::Paint(on), Task::Sort(far)]);
             }
         }
@@ -49,7 +45,7 @@ fn place(piece: &Piece, plane: &Piece) -> Place {
 }
 
 /// Pieces beyond the plane of one of them, in it, and before it.
-fn divided(pieces: Vec<Piece>, cuts: &mut usize) -> [Vec<Piece>; 3] {
+fn divided(pieces: Vec<Piece>) -> [Vec<Piece>; 3] {
     let chosen = best(&pieces);
     let plane = pieces[chosen].clone();
     let [mut far, mut on, mut near] = [vec![], vec![], vec![]];
@@ -59,16 +55,10 @@ fn divided(pieces: Vec<Piece>, cuts: &mut usize) -> [Vec<Piece>; 3] {
             Place::Far => far.push(piece),
             Place::On => on.push(piece),
             Place::Near => near.push(piece),
-            Place::Both if *cuts > 0 => {
-                *cuts -= 1;
+            Place::Both => {
                 let (before, beyond) = piece.split(&plane);
                 near.extend(before);
                 far.extend(beyond);
-            }
-            // There are enough cuts already: it goes where its middle lies.
-            Place::Both => {
-                let side = piece.corners.iter().map(|&p| plane.above(p)).sum::<f64>();
-                if side > 0.0 { &mut near } else { &mut far }.push(piece);
             }
         }
     }
