@@ -111,8 +111,8 @@ fn rounds(polygons: usize) -> usize {
     (100_000 / polygons).clamp(30, 2_000)
 }
 
-/// How many polygons there are, and both ratios: to the Rust with the replacements, and as published.
-fn whole(part: &Timed) -> (usize, [f64; 2]) {
+/// How many polygons there are, and both ratios: to the Rust with the replacements, and as published. The name stands before what is printed.
+fn whole(name: &str, part: &Timed) -> (usize, [f64; 2]) {
     let (file, polygons) = (&part.file[..], Blocks::of(&part.file).expect("a good file").polygons);
     let checked = Checked::of(file).ok().expect("an accepted file");
     let mut lent = Lent::new(&checked);
@@ -130,7 +130,7 @@ fn whole(part: &Timed) -> (usize, [f64; 2]) {
     );
     let ratios = [ours / theirs, ours / other];
     println!(
-        "check, {}, {} ({polygons} polygons; {} faults, {} lines): {ours:.1} µs; \
+        "{name}, {}, {} ({polygons} polygons; {} faults, {} lines): {ours:.1} µs; \
          the Rust's {theirs:.1} µs with the replacements, {other:.1} µs as published: {:.2} and {:.2} times theirs",
         PROCESSES[part.process as usize],
         part.name,
@@ -191,7 +191,8 @@ fn main() {
         _ => (&[CNC, SHEET, FDM, SLA, SLS], timed::of_many_faults()),
     };
     let parts = timed::by_size().into_iter().filter(|part| processes.contains(&part.process));
-    let ratios: Vec<(usize, [f64; 2])> = parts.chain(many.iter().cloned()).map(|part| whole(&part)).collect();
+    let mut ratios: Vec<(usize, [f64; 2])> = parts.map(|part| whole("check", &part)).collect();
+    ratios.extend(many.iter().map(|part| whole("check of many faults", part)));
     let most = |list: &mut dyn Iterator<Item = f64>| list.fold(0.0, f64::max);
     let slower = ratios.iter().filter(|r| r.1[0] > 1.0).count();
     let merged = if many.is_empty() {

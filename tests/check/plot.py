@@ -31,10 +31,10 @@ def middle(numbers):
 
 
 def sizes(parts):
-    """The parts in groups of like size: each is within a quarter of the first of its group."""
+    """The parts in groups of like size: none has half as many polygons again as the first of its group."""
     groups = []
     for part in sorted(parts):
-        if groups and part[0] <= groups[-1][0][0] * 1.2:
+        if groups and part[0] <= groups[-1][0][0] * 1.5:
             groups[-1].append(part)
         else:
             groups.append([part])
