@@ -76,7 +76,7 @@ fn damaged(file: &[u8], random: &mut Random) -> Vec<u8> {
 }
 
 /// Bytes of what stands before a file in the list that the program replay_check replays: the length first.
-const HEADER: usize = 24;
+const HEADER: usize = 20;
 
 /// The files of that list, whose runs of zeros are packed.
 fn replayed() -> Vec<Vec<u8>> {
