@@ -7,7 +7,6 @@ use denote.Ref.{now}
 use Rattle.file_part.specs.Part.{partOf}
 use Rattle.solid_faces.specs.Faces.{polygonPlane}
 use Rattle.solid_faces.proofs.BodyLaws.{EntryRoom, entry-room, run-room, checked-readable}
-use Rattle.wall_ray.specs.Corners.{Corners}
 use Rattle.wall_ray.specs.Work.{comes}
 use Rattle.wall_ray.proofs.StruckLaws.{run-corners, is-time, off-plane, outside, unreached, taken}
 use Rattle.wall_ray.proofs.TryLaws.{try-leaves, try-takes}
