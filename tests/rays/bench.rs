@@ -44,7 +44,7 @@ impl Subject {
     fn new((name, mesh): (String, Mesh)) -> Subject {
         let (file, polygons, vertices) = (mesh.bytes(), mesh.polygons.len(), mesh.vertices());
         let (patched, published) = (oracle::body(&file).expect("an accepted file"), published::body(&file).expect("an accepted file"));
-        let (words, reals) = (vec![0; 8 * polygons + 8 * vertices + 1024], vec![0.0; 16 * polygons + 8 * vertices + 2048]);
+        let (words, reals) = (vec![0; 12 * polygons + 8 * vertices + 1024], vec![0.0; 24 * polygons + 8 * vertices + 2048]);
         Subject { name, file, polygons, words, reals, patched, published }
     }
 
