@@ -37,6 +37,21 @@ pub fn draw(random: &mut Random) -> Mesh {
     finished(random, polygons, n)
 }
 
+/// The first 15 to 18 polygons of a part; where it has fewer, some once more.
+pub fn about_scanned(random: &mut Random, mesh: &mut Mesh) {
+    let n = SCANNED - 1 + random.below(4) as usize;
+    mesh.polygons.truncate(n);
+    while (1..n).contains(&mesh.polygons.len()) {
+        let k = random.below(mesh.polygons.len() as u64) as usize;
+        let mut copy = mesh.polygons[k].clone();
+        if random.below(2) == 0 {
+            let by = pick(random, &[0.5, -2.0, 1e-3]);
+            copy.points.iter_mut().for_each(|p| p[k % 3] = within(p[k % 3] + by));
+        }
+        mesh.polygons.push(copy);
+    }
+}
+
 /// Of these polygons just n, some of them several times, in any order and faces.
 fn finished(random: &mut Random, mut polygons: Vec<Vec<Point>>, n: usize) -> Mesh {
     let again = pick(random, &[0, 0, 1, n / 4]);
