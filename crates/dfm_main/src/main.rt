@@ -10,7 +10,7 @@ const LONGEST: usize = 16_384;
 // One byte more than that shows that a file is longer.
 const READ: usize = 16_385;
 
-// Scratch for any such file: 8P + 8V + 1,024 and 16P + 8V + 2,048 are the most with vertices alone.
+// Scratch for any such file: 12P + 8V + 1,024 and 24P + 8V + 2,048 are the most with vertices alone.
 const WORDS: usize = 6_432;
 
 const REALS: usize = 7_456;

@@ -29,7 +29,8 @@ use Rattle.solid_sizes.proofs.Planes.{checked-plane}
 use Rattle.solid_sizes.proofs.Opposite.{dot-opposite, opposite-half}
 use Rattle.solid_sizes.proofs.Above.{add-beyond, beyond-above}
 use Rattle.wall_ray.specs.declared.strike.Hit.the-variants.{At}
-use Rattle.wall_ray.specs.Strike.{isParallel, timeOf, hitTime, isInside, struck}
+use Rattle.wall_ray.specs.Slab.{reachedIn}
+use Rattle.wall_ray.specs.Strike.{isParallel, timeOf, hitTime, isInside, crosses, ownSpan, struck}
 use Rattle.wall_ray.specs.Nearest.{hitOf}
 use Rattle.wall_samples.specs.Samples.{e-6, polygonCentroid, inward, rayOf, facesBack, readingsOf}
 use Rattle.wall_samples.specs.Stored.{reading}
@@ -99,10 +100,11 @@ module _ (t : Part) (p q : ℕ) (from : PlaneWithin t p) (to : PlaneWithin t q) 
 
   -- t is not below 0, and no NaN
   time-nonneg : facesBack t p q ≡ true → struck t (rayOf t p) q ≡ true → NonNeg (hitTime t (rayOf t p) q)
-  unfolding struck
+  unfolding struck crosses
   time-nonneg h k =
       let x = hitTime t (rayOf t p) q in
-      let rest = and-right (not (isParallel (polygonPlane t q) (rayOf t p))) (not (lt x vector.zero) && isInside t (rayOf t p) q) k in
+      let met = and-left (crosses t (rayOf t p) q) (reachedIn (ownSpan t (rayOf t p) q) x) k in
+      let rest = and-right (not (isParallel (polygonPlane t q) (rayOf t p))) (not (lt x vector.zero) && isInside t (rayOf t p) q) met in
       not-lt-le x vector.zero (finite-number x (time-within h .is-finite)) (finite-number vector.zero zero-finite)
       (not-true (lt x vector.zero) (and-left (not (lt x vector.zero)) (isInside t (rayOf t p) q) rest))
 

@@ -5,7 +5,7 @@ use scratch::body::put_body;
 use scratch::refusal::body_refusal;
 use scratch::regions::Regions;
 use scratch::regions::Stages;
-use wall_ray::raycast::raycast;
+use wall_tree::raycast::raycast;
 
 // Puts the body of a part into the lent scratch, and for each ray the polygon that it strikes and how far along, and answers 0; or answers the
 // refusal from 1 to 10 and changes nothing.

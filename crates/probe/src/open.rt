@@ -5,7 +5,7 @@ use scratch::body::put_body;
 use scratch::refusal::body_refusal;
 use scratch::regions::Regions;
 use scratch::regions::Stages;
-use wall_ray::raycast::open_towards;
+use wall_tree::raycast::open_towards;
 
 // Puts the body of a part into the lent scratch, and for each ray 1 where the line from its origin along its direction leaves the part, else 0, and
 // answers 0; or answers the refusal from 1 to 10 and changes nothing.

@@ -22,7 +22,7 @@ use fault_text::kind::SHARP_INSIDE_CORNER;
 use fault_text::machining::MIN_MILL_RADIUS;
 use num_real::select::max;
 use scratch::regions::Regions;
-use wall_ray::raycast::open_towards;
+use wall_tree::raycast::open_towards;
 
 // Whether a straight line leaves the part from a little off the corner, along one of its normals.
 fn is_reached(file: &[u8], words: &[u32], reals: &[f64], at: Regions, c: Corner) -> bool

@@ -201,7 +201,7 @@ module _ (s : List ℕ) (at : Regions) (words : List ℕ) (reals : List Float) (
 
   -- the volumes in the scratch
   volume-at : at .bodies ≡ true → getD reals (at .volumes + b) nan ≡ volumeOf (partOf s) b
-  volume-at on = sym (part-place (at .volumes) (at .falling) reals nan b (omega (arith, low, stands .placed .laid))) ∙ stands .the-reals .volumes on .each b there
+  volume-at on = sym (part-place (at .volumes) (at .boxes) reals nan b (omega (arith, low, stands .placed .laid))) ∙ stands .the-reals .volumes on .each b there
 
   pub hollows-next : at .bodies ≡ true → (job : Job) → job ≡ partOf s .job → (sls : Bool) → sls ≡ isSls (job .process) → {from k r : ℕ} {c c′ c″ : List ℕ} {n n′ n″ : List Float} →
       HollowsTo (partOf s) b from c c′ n n′ k → HollowPut sls b (getD reals (at .volumes + b) nan) k c′ c″ n′ n″ r → HollowsTo (partOf s) (b + 1) from c c″ n n″ r

@@ -14,4 +14,5 @@ pub mod RegionLaws
 pub mod WordsLaws
 pub mod RealsLaws
 pub mod StandingLaws
+pub mod TreeLaws
 pub mod RefusalLaws

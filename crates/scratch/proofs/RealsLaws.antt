@@ -55,11 +55,11 @@ module _ (t : Part) (at : Regions) (laid : Laid at) (s : List Float) (room : at 
   pub volumes-none : not (at .bodies) ≡ true → VolumesPut t at s s
   volumes-none off = record { volumes = λ on. absurd (contrary on (not-true _ off)); kept = outside-none nan _ _ s }
 
-  pub volumes-put : (z : List Float) → length z ≡ at .falling - at .volumes → Volumes t z → VolumesPut t at s (putMid (at .volumes) (at .falling - at .volumes) s z)
+  pub volumes-put : (z : List Float) → length z ≡ at .boxes - at .volumes → Volumes t z → VolumesPut t at s (putMid (at .volumes) (at .boxes - at .volumes) s z)
   volumes-put z lz v =
       record {
-        volumes = λ on. subst (Volumes t) (sym (part-put (at .volumes) (at .falling) s z (omega (arith, room, laid)) lz)) v;
-        kept = outside-put nan (at .volumes) (at .falling) s z (omega (arith, laid)) (omega (arith, room, laid)) lz;
+        volumes = λ on. subst (Volumes t) (sym (part-put (at .volumes) (at .boxes) s z (omega (arith, room, laid)) lz)) v;
+        kept = outside-put nan (at .volumes) (at .boxes) s z (omega (arith, laid)) (omega (arith, room, laid)) lz;
       }
 
 -- ---- all four regions: planes x, areas y, the areas of the faces, and the volumes
@@ -86,7 +86,7 @@ module _ (t : Part) (at : Regions) (laid : Laid at) (s x y after last : List Flo
     inside = omega (arith, room, areas-length, sums .kept .long)
 
     before : (b f : ℕ) → f ≤ at .volumes → part b f last ≡ part b f after
-    before b f l = outside-part nan (at .volumes) (at .falling) b f after last l (omega (arith, l, inside, laid)) (put .kept)
+    before b f l = outside-part nan (at .volumes) (at .boxes) b f after last l (omega (arith, l, inside, laid)) (put .kept)
 
     summed : (b f : ℕ) → f ≤ at .totals → part b f after ≡ part b f areas-put
     summed b f l = outside-part nan (at .totals) (at .volumes) b f areas-put after l (omega (arith, l, room, areas-length, laid)) (sums .kept)
@@ -109,16 +109,16 @@ module _ (t : Part) (at : Regions) (laid : Laid at) (s x y after last : List Flo
           volumes = put .volumes;
         }
 
-    outside : Outside nan 0 (at .falling) s last
+    outside : Outside nan 0 (at .boxes) s last
     outside =
         outside-then nan _ _ s planes-put last (wide 0 (at .areas) s planes-put (omega (arith, laid)) (outside-put nan 0 (at .areas) s x (omega arith) (omega (arith, room, laid)) lx))
         (outside-then nan _ _ planes-put areas-put last
         (wide (at .areas) (at .totals) planes-put areas-put (omega (arith, laid)) (outside-put nan (at .areas) (at .totals) planes-put y (omega (arith, laid)) (omega (arith, room, laid, planes-length)) ly))
         (outside-then nan _ _ areas-put after last (wide (at .totals) (at .volumes) areas-put after (omega (arith, laid)) (sums .kept))
-        (wide (at .volumes) (at .falling) after last (omega arith) (put .kept))))
+        (wide (at .volumes) (at .boxes) after last (omega arith) (put .kept))))
       where
-        wide : (a e : ℕ) (l m : List Float) → e ≤ at .falling → Outside nan a e l m → Outside nan 0 (at .falling) l m
-        wide a e l m high o = outside-wide nan a e 0 (at .falling) l m (omega arith) high o
+        wide : (a e : ℕ) (l m : List Float) → e ≤ at .boxes → Outside nan a e l m → Outside nan 0 (at .boxes) l m
+        wide a e l m high o = outside-wide nan a e 0 (at .boxes) l m (omega arith) high o
 
-    pub reals-put : (KeptPlanes t (at .polygons) x → KeptAreas t (at .polygons) y → Reals t at last) × Outside nan 0 (at .falling) s last
+    pub reals-put : (KeptPlanes t (at .polygons) x → KeptAreas t (at .polygons) y → Reals t at last) × Outside nan 0 (at .boxes) s last
     reals-put = (all-reals, outside)

@@ -8,6 +8,7 @@ use Rattle.scratch.specs.Regions.{Laid, regionsOf}
 pub only-regions : (at : Regions) → Laid at → at ≡ regionsOf (at .polygons) (at .vertices) (at .segments) (at .bodies)
 unfolding regionsOf
 only-regions at laid = rw (
+  is-tree,
   is-sides,
   is-items,
   is-sorted,
@@ -24,6 +25,7 @@ only-regions at laid = rw (
   is-areas,
   is-totals,
   is-volumes,
+  is-boxes,
   is-falling,
   is-thickness,
   is-weights,
@@ -33,43 +35,46 @@ only-regions at laid = rw (
   is-reals,
 )
   where
-    is-sides : at .sides ≡ at .polygons
+    is-tree : at .tree ≡ at .polygons
+    is-tree = omega (arith, laid)
+
+    is-sides : at .sides ≡ 5 * at .polygons
     is-sides = omega (arith, laid)
 
-    is-items : at .items ≡ at .polygons + 3 * at .vertices
+    is-items : at .items ≡ 5 * at .polygons + 3 * at .vertices
     is-items = omega (arith, laid)
 
-    is-sorted : at .sorted ≡ at .polygons + 4 * at .vertices
+    is-sorted : at .sorted ≡ 5 * at .polygons + 4 * at .vertices
     is-sorted = omega (arith, laid)
 
-    is-chain : at .chain ≡ at .polygons + 6 * at .vertices
+    is-chain : at .chain ≡ 5 * at .polygons + 6 * at .vertices
     is-chain = omega (arith, laid)
 
     is-work : at .work ≡ at .polygons + 6 * at .vertices
     is-work = omega (arith, laid)
 
-    is-faces : at .faces ≡ at .polygons + 8 * at .vertices
+    is-faces : at .faces ≡ 5 * at .polygons + 8 * at .vertices
     is-faces = omega (arith, laid)
 
-    is-firsts : at .firsts ≡ 2 * at .polygons + 8 * at .vertices
+    is-firsts : at .firsts ≡ 6 * at .polygons + 8 * at .vertices
     is-firsts = omega (arith, laid)
 
-    is-readings : at .readings ≡ 2 * at .polygons + 8 * at .vertices + 1024
+    is-readings : at .readings ≡ 6 * at .polygons + 8 * at .vertices + 1024
     is-readings = omega (arith, laid)
 
-    is-hits : at .hits ≡ 3 * at .polygons + 8 * at .vertices + 1024
+    is-hits : at .hits ≡ 7 * at .polygons + 8 * at .vertices + 1024
     is-hits = omega (arith, laid)
 
-    is-order : at .order ≡ 4 * at .polygons + 8 * at .vertices + 1024
+    is-order : at .order ≡ 8 * at .polygons + 8 * at .vertices + 1024
     is-order = omega (arith, laid)
 
-    is-kinds : at .kinds ≡ 6 * at .polygons + 8 * at .vertices + 1024
+    is-kinds : at .kinds ≡ 10 * at .polygons + 8 * at .vertices + 1024
     is-kinds = omega (arith, laid)
 
-    is-ranks : at .ranks ≡ 7 * at .polygons + 8 * at .vertices + 1024
+    is-ranks : at .ranks ≡ 11 * at .polygons + 8 * at .vertices + 1024
     is-ranks = omega (arith, laid)
 
-    is-words : at .words ≡ 8 * at .polygons + 8 * at .vertices + 1024
+    is-words : at .words ≡ 12 * at .polygons + 8 * at .vertices + 1024
     is-words = omega (arith, laid)
 
     is-areas : at .areas ≡ 4 * at .polygons
@@ -81,23 +86,26 @@ only-regions at laid = rw (
     is-volumes : at .volumes ≡ 5 * at .polygons + 1024
     is-volumes = omega (arith, laid)
 
-    is-falling : at .falling ≡ 6 * at .polygons + 1024
+    is-boxes : at .boxes ≡ 6 * at .polygons + 1024
+    is-boxes = omega (arith, laid)
+
+    is-falling : at .falling ≡ 14 * at .polygons + 1024
     is-falling = omega (arith, laid)
 
-    is-thickness : at .thickness ≡ 7 * at .polygons + 1024
+    is-thickness : at .thickness ≡ 15 * at .polygons + 1024
     is-thickness = omega (arith, laid)
 
-    is-weights : at .weights ≡ 8 * at .polygons + 1024
+    is-weights : at .weights ≡ 16 * at .polygons + 1024
     is-weights = omega (arith, laid)
 
-    is-rounds : at .rounds ≡ 9 * at .polygons + 1024
+    is-rounds : at .rounds ≡ 17 * at .polygons + 1024
     is-rounds = omega (arith, laid)
 
-    is-directions : at .directions ≡ 16 * at .polygons + 1024
+    is-directions : at .directions ≡ 24 * at .polygons + 1024
     is-directions = omega (arith, laid)
 
-    is-free : at .free ≡ 16 * at .polygons + at .vertices + 1024
+    is-free : at .free ≡ 24 * at .polygons + at .vertices + 1024
     is-free = omega (arith, laid)
 
-    is-reals : at .reals ≡ 16 * at .polygons + 8 * at .vertices + 2048
+    is-reals : at .reals ≡ 24 * at .polygons + 8 * at .vertices + 2048
     is-reals = omega (arith, laid)

@@ -1,7 +1,7 @@
 -- The body stands in the scratch, and still does after changes past its regions; what a stage above reads of it.
 use mathlib.Core.Path.{_≡_, refl, sym, _∙_, subst}
 use mathlib.Core.List.{List}
-use Prim.Native.Nat.{ℕ, _≤_}
+use Prim.Native.Nat.{ℕ, _≤_, _<_}
 use native.Mathlib.Omega.{arith}
 use lib.Ieee.{Float, nan}
 use Rattle.list_laws.specs.Region.{part, Outside}
@@ -11,9 +11,10 @@ use Rattle.file_part.proofs.PartLaws.{part-vertices, part-polygons}
 use Rattle.solid_segments.specs.Sides.{SharedSegments}
 use Rattle.solid_bodies.proofs.BodyLaws.{labels-as}
 use Rattle.solid_volumes.specs.Volume.{Volumes}
+use Rattle.solid_boxes.specs.Tree.{PartTree}
 use Rattle.solid_faces.specs.Kept.{Faces, Chain, KeptPlanes, KeptAreas, FaceAreas}
 use Rattle.scratch.specs.declared.regions.Regions.{Regions}
-use Rattle.scratch.specs.Regions.{Laid}
+use Rattle.scratch.specs.Regions.{scanned, Laid}
 use Rattle.scratch.specs.Standing.{Placed, Words, Reals, Standing, BodyKept}
 
 -- the counts of the part
@@ -74,6 +75,10 @@ module _ (s : List ℕ) (at : Regions) (b : ℕ) (words words′ : List ℕ) (re
             (sym (part-kept 0 words words′ (at .faces) (at .readings) (w .long) (omega (arith, h .words-room, laid)) (w .faces))) (h .the-words .faces);
       }
 
+  -- the reals that are kept
+  same : (c f : ℕ) → f ≤ at .falling → part c f reals′ ≡ part c f reals
+  same c f low = outside-part nan (at .falling) b c f reals reals′ low (omega (arith, low, h .reals-room, h .placed .laid)) r
+
   reals-still : Reals (partOf s) at reals′
   reals-still =
       let laid = h .placed .laid in
@@ -81,11 +86,16 @@ module _ (s : List ℕ) (at : Regions) (b : ℕ) (words words′ : List ℕ) (re
         planes = subst (KeptPlanes (partOf s) (at .polygons)) (sym (same 0 (at .areas) (omega (arith, laid)))) (h .the-reals .planes);
         areas = subst (KeptAreas (partOf s) (at .polygons)) (sym (same (at .areas) (at .totals) (omega (arith, laid)))) (h .the-reals .areas);
         totals = subst (FaceAreas (partOf s)) (sym (same (at .totals) (at .volumes) (omega (arith, laid)))) (h .the-reals .totals);
-        volumes = λ on. subst (Volumes (partOf s)) (sym (same (at .volumes) (at .falling) (omega arith))) (h .the-reals .volumes on);
+        volumes = λ on. subst (Volumes (partOf s)) (sym (same (at .volumes) (at .boxes) (omega (arith, laid)))) (h .the-reals .volumes on);
       }
-    where
-      same : (c f : ℕ) → f ≤ at .falling → part c f reals′ ≡ part c f reals
-      same c f low = outside-part nan (at .falling) b c f reals reals′ low (omega (arith, low, h .reals-room, h .placed .laid)) r
+
+  tree-still : scanned < at .polygons → PartTree (partOf s) (part (at .boxes) (at .falling) reals′) (part (at .tree) (at .sides) words′)
+  tree-still many =
+      let laid = h .placed .laid in
+      subst (λ (x : List Float). PartTree (partOf s) x (part (at .tree) (at .sides) words′)) (sym (same (at .boxes) (at .falling) (omega arith)))
+      (subst (PartTree (partOf s) (part (at .boxes) (at .falling) reals))
+      (sym (part-kept 0 words words′ (at .tree) (at .sides) (w .long) (omega (arith, h .words-room, laid)) (λ i k l. w .front i (omega (arith, l, laid)))))
+      (h .tree many))
 
   pub standing-still : Standing s at words′ reals′
   standing-still =
@@ -95,6 +105,7 @@ module _ (s : List ℕ) (at : Regions) (b : ℕ) (words words′ : List ℕ) (re
         reals-room = omega (arith, h .reals-room, r .long);
         the-words = words-still;
         the-reals = reals-still;
+        tree = tree-still;
       }
 
 -- changes past the body's regions

@@ -4,12 +4,17 @@ use mathlib.Core.Bool.{Bool}
 use Prim.Native.Nat.{ℕ, _+_, _*_, _≤_}
 use Rattle.scratch.specs.declared.regions.Regions.{Regions}
 
--- 10: "f64 scratch under 16P + 8V + 2,048 or u32 scratch under 8P + 8V + 1,024"
+-- 10: "f64 scratch under 16P + 8V + 2,048 or u32 scratch under 8P + 8V + 1,024"; of document 02, item 7: "Scratch grows by 8P f64 values and 4P u32 values,
+-- under refusal 10"
 abbrev pub wordsNeeded : ℕ → ℕ → ℕ
-wordsNeeded p v = 8 * p + 8 * v + 1024
+wordsNeeded p v = 12 * p + 8 * v + 1024
 
 abbrev pub realsNeeded : ℕ → ℕ → ℕ
-realsNeeded p v = 16 * p + 8 * v + 2048
+realsNeeded p v = 24 * p + 8 * v + 2048
+
+-- a part of at most so many polygons has no tree: trying each is faster
+abbrev pub scanned : ℕ
+scanned = 16
 
 -- the regions follow each other, each as long as what stands there needs
 pub record Laid (at : Regions) : Type 0 where
@@ -17,10 +22,12 @@ pub record Laid (at : Regions) : Type 0 where
   pub few : at .polygons ≤ 4096
   pub short : at .vertices ≤ 16384
   -- ---- u32: from 0 on the body of each polygon, by its lowest polygon, where bodies are put
-  -- three cells a side, where segments are put; while the bodies are found their work stands here, to before `work`, and while the sides are paired
-  -- eight cells a side
-  pub sides : at .sides ≡ at .polygons
-  pub work : at .work ≡ at .sides + 6 * at .vertices
+  -- the tree of boxes, where the part has one: the order of its polygons, the starts and the skips of its nodes
+  pub tree : at .tree ≡ at .polygons
+  -- three cells a side, where segments are put; while the sides are paired eight cells a side
+  pub sides : at .sides ≡ at .tree + 4 * at .polygons
+  -- while the bodies are found, before sides and tree are put, their work stands from 0 on to before here
+  pub work : at .work ≡ at .polygons + 6 * at .vertices
   -- sides that are put in order, by their places before that ..
   pub items : at .items ≡ at .sides + 3 * at .vertices
   -- .. and the places in order, with as many cells of work
@@ -50,8 +57,10 @@ pub record Laid (at : Regions) : Type 0 where
   pub totals : at .totals ≡ at .areas + at .polygons
   -- the volume of each body, at its lowest polygon, where bodies are put
   pub volumes : at .volumes ≡ at .totals + 1024
+  -- the boxes of the tree, where the part has one: six numbers for each node
+  pub boxes : at .boxes ≡ at .volumes + at .polygons
   -- the area of each polygon, negated: the keys by which polygons go by falling area
-  pub falling : at .falling ≡ at .volumes + at .polygons
+  pub falling : at .falling ≡ at .boxes + 8 * at .polygons
   -- the thickness of each reading, and the area of the polygon that it starts from
   pub thickness : at .thickness ≡ at .falling + at .polygons
   pub weights : at .weights ≡ at .thickness + at .polygons
@@ -72,27 +81,29 @@ regionsOf p v segments bodies =
       vertices = v;
       segments = segments;
       bodies = bodies;
-      sides = p;
-      items = p + 3 * v;
-      sorted = p + 4 * v;
-      chain = p + 6 * v;
+      tree = p;
+      sides = 5 * p;
+      items = 5 * p + 3 * v;
+      sorted = 5 * p + 4 * v;
+      chain = 5 * p + 6 * v;
       work = p + 6 * v;
-      faces = p + 8 * v;
-      firsts = 2 * p + 8 * v;
-      readings = 2 * p + 8 * v + 1024;
-      hits = 3 * p + 8 * v + 1024;
-      order = 4 * p + 8 * v + 1024;
-      kinds = 6 * p + 8 * v + 1024;
-      ranks = 7 * p + 8 * v + 1024;
+      faces = 5 * p + 8 * v;
+      firsts = 6 * p + 8 * v;
+      readings = 6 * p + 8 * v + 1024;
+      hits = 7 * p + 8 * v + 1024;
+      order = 8 * p + 8 * v + 1024;
+      kinds = 10 * p + 8 * v + 1024;
+      ranks = 11 * p + 8 * v + 1024;
       words = wordsNeeded p v;
       areas = 4 * p;
       totals = 5 * p;
       volumes = 5 * p + 1024;
-      falling = 6 * p + 1024;
-      thickness = 7 * p + 1024;
-      weights = 8 * p + 1024;
-      rounds = 9 * p + 1024;
-      directions = 16 * p + 1024;
-      free = 16 * p + v + 1024;
+      boxes = 6 * p + 1024;
+      falling = 14 * p + 1024;
+      thickness = 15 * p + 1024;
+      weights = 16 * p + 1024;
+      rounds = 17 * p + 1024;
+      directions = 24 * p + 1024;
+      free = 24 * p + v + 1024;
       reals = realsNeeded p v;
     }

@@ -11,10 +11,11 @@ use Rattle.file_part.specs.Part.{Part, partOf}
 use Rattle.solid_segments.specs.Sides.{SharedSegments}
 use Rattle.solid_bodies.specs.Body.{Labels}
 use Rattle.solid_volumes.specs.Volume.{Volumes}
+use Rattle.solid_boxes.specs.Tree.{PartTree}
 use Rattle.solid_faces.specs.Faces.{Checked}
 use Rattle.solid_faces.specs.Kept.{Faces, Chain, KeptPlanes, KeptAreas, FaceAreas}
 use Rattle.scratch.specs.declared.regions.Regions.{Regions}
-use Rattle.scratch.specs.Regions.{Laid}
+use Rattle.scratch.specs.Regions.{scanned, Laid}
 
 -- a file that none of 1 to 9 turns back, and the regions of its part
 pub record Placed (s : List ℕ) (at : Regions) : Type 0 where
@@ -36,7 +37,7 @@ pub record Reals (t : Part) (at : Regions) (reals : List Float) : Type 0 where
   pub planes : KeptPlanes t (at .polygons) (part 0 (at .areas) reals)
   pub areas : KeptAreas t (at .polygons) (part (at .areas) (at .totals) reals)
   pub totals : FaceAreas t (part (at .totals) (at .volumes) reals)
-  pub volumes : at .bodies ≡ true → Volumes t (part (at .volumes) (at .falling) reals)
+  pub volumes : at .bodies ≡ true → Volumes t (part (at .volumes) (at .boxes) reals)
 
 -- the body of a file's part stands in the scratch: what every later stage requires
 pub record Standing (s : List ℕ) (at : Regions) (words : List ℕ) (reals : List Float) : Type 0 where
@@ -45,6 +46,8 @@ pub record Standing (s : List ℕ) (at : Regions) (words : List ℕ) (reals : Li
   pub reals-room : at .reals ≤ length reals
   pub the-words : Words (partOf s) at words
   pub the-reals : Reals (partOf s) at reals
+  -- of document 02, item 7: "Bring back a tree of boxes, at most 8 polygons in a leaf"
+  pub tree : scanned < at .polygons → PartTree (partOf s) (part (at .boxes) (at .falling) reals) (part (at .tree) (at .sides) words)
 
 -- what later stages may change of the words: the cells for sides in order, and those past the body. All else is as it was
 pub record BodyKept (at : Regions) (old new : List ℕ) : Type 0 where

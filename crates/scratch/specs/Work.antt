@@ -2,15 +2,17 @@
 use mathlib.Core.Path.{_≡_}
 use mathlib.Core.Bool.{true}
 use mathlib.Core.List.{List}
-use Prim.Native.Nat.{ℕ}
+use Prim.Native.Nat.{ℕ, _<_}
 use lib.Ieee.{Float, nan}
 use Rattle.list_laws.specs.Region.{part, Outside}
 use Rattle.file_part.specs.Part.{Part}
 use Rattle.solid_segments.specs.Sides.{SharedSegments}
 use Rattle.solid_bodies.specs.Body.{Labels}
 use Rattle.solid_volumes.specs.Volume.{Volumes}
+use Rattle.solid_boxes.specs.Tree.{PartTree}
 use Rattle.solid_faces.specs.Kept.{Faces, FaceAreas}
 use Rattle.scratch.specs.declared.regions.Regions.{Regions}
+use Rattle.scratch.specs.Regions.{scanned}
 
 -- the bodies are put where they are asked for, and nothing past their work has changed
 pub record LabelsPut (t : Part) (at : Regions) (old new : List ℕ) : Type 0 where
@@ -35,5 +37,11 @@ pub record TotalsPut (t : Part) (at : Regions) (old new : List Float) : Type 0 w
 
 -- the volumes are put where they are asked for, and nothing else has changed
 pub record VolumesPut (t : Part) (at : Regions) (old new : List Float) : Type 0 where
-  pub volumes : at .bodies ≡ true → Volumes t (part (at .volumes) (at .falling) new)
-  pub kept : Outside nan (at .volumes) (at .falling) old new
+  pub volumes : at .bodies ≡ true → Volumes t (part (at .volumes) (at .boxes) new)
+  pub kept : Outside nan (at .volumes) (at .boxes) old new
+
+-- the tree is put where the part has one, and nothing else has changed
+pub record TreePut (t : Part) (at : Regions) (words words′ : List ℕ) (reals reals′ : List Float) : Type 0 where
+  pub tree : scanned < at .polygons → PartTree t (part (at .boxes) (at .falling) reals′) (part (at .tree) (at .sides) words′)
+  pub words-kept : Outside 0 (at .tree) (at .sides) words words′
+  pub reals-kept : Outside nan (at .boxes) (at .falling) reals reals′

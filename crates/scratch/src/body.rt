@@ -10,6 +10,7 @@ ghost use Rattle.solid_faces.specs.Kept.{Faces, Chain, KeptAreas};
 ghost use Rattle.scratch.specs.Standing.{Placed, Words, Reals, Standing};
 ghost use Rattle.scratch.specs.Work.{LabelsPut, SidesPut, TotalsPut, VolumesPut};
 use crate::regions::Regions;
+use crate::tree::put_tree;
 use list_cells::fill_reals;
 use list_cells::wide;
 use solid_faces::areas::add_area;
@@ -110,7 +111,7 @@ fn put_volumes(file: &[u8], words: &[u32], reals: &mut [f64], at: Regions)
     let start: usize = 0;
     let polygons = at.polygons;
     let volume = at.volumes;
-    let end = at.falling;
+    let end = at.boxes;
     volumes(file, &words[start..polygons], &mut reals[volume..end]);
 }
 
@@ -119,7 +120,7 @@ fn put_reals(file: &[u8], words: &[u32], reals: &mut [f64], at: Regions)
     requires { ⌜ Placed (now file) at ⌝ ∗ ⌜ at .words ≤ length (now words) ⌝ ∗ ⌜ Words (partOf (now file)) at (now words) ⌝ }
     requires { ⌜ at .reals ≤ length (now reals) ⌝ }
     ensures { λ r. ⌜ Reals (partOf (now (file .entry))) at (now (reals .exit)) ⌝ }
-    ensures { λ r. ⌜ Outside nan 0 (at .falling) (now (reals .entry)) (now (reals .exit)) ⌝ }
+    ensures { λ r. ⌜ Outside nan 0 (at .boxes) (now (reals .entry)) (now (reals .exit)) ⌝ }
 {
     let start: usize = 0;
     let areas = at.areas;
@@ -138,5 +139,6 @@ pub fn put_body(file: &[u8], words: &mut [u32], reals: &mut [f64], at: Regions) 
 {
     let n = put_words(file, words, at);
     put_reals(file, words, reals, at);
+    put_tree(file, words, reals, at);
     n
 }

@@ -2,3 +2,4 @@
 pub mod body;
 pub mod refusal;
 pub mod regions;
+pub mod tree;

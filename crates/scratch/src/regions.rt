@@ -8,6 +8,9 @@ ghost use Rattle.scratch.specs.Standing.{Placed};
 use file_part::read::polygon_count;
 use file_part::read::vertex_count;
 
+// A part of at most so many polygons has no tree: trying each is faster.
+pub const SCANNED: usize = 16;
+
 // What a process asks for of a body past its faces, planes and areas: what it does not ask for is not computed.
 pub struct Stages {
     // the shared segments: machining and sheet metal
@@ -25,6 +28,7 @@ pub struct Regions {
     // the bodies and their volumes are put
     pub bodies: bool,
     // u32, after the bodies of the polygons, which stand from 0 on
+    pub tree: usize,
     pub sides: usize,
     pub items: usize,
     pub sorted: usize,
@@ -42,6 +46,7 @@ pub struct Regions {
     pub areas: usize,
     pub totals: usize,
     pub volumes: usize,
+    pub boxes: usize,
     pub falling: usize,
     pub thickness: usize,
     pub weights: usize,
@@ -73,7 +78,8 @@ impl Regions {
         ensures { λ r. ⌜ Laid r ⌝ ∗ ⌜ r .polygons ≡ polygons ⌝ ∗ ⌜ r .vertices ≡ vertices ⌝ }
         ensures { λ r. ⌜ r .segments ≡ stages .segments ⌝ ∗ ⌜ r .bodies ≡ stages .bodies ⌝ }
     {
-        let items = polygons + 3 * vertices;
+        let sides = 5 * polygons;
+        let items = sides + 3 * vertices;
         let sorted = items + vertices;
         let chain = sorted + 2 * vertices;
         let faces = chain + 2 * vertices;
@@ -83,7 +89,8 @@ impl Regions {
         let kinds = order + 2 * polygons;
         let totals = 5 * polygons;
         let volumes = totals + 1024;
-        let falling = volumes + polygons;
+        let boxes = volumes + polygons;
+        let falling = boxes + 8 * polygons;
         let rounds = falling + 3 * polygons;
         let directions = rounds + 7 * polygons;
         Regions {
@@ -91,7 +98,8 @@ impl Regions {
             vertices: vertices,
             segments: stages.segments,
             bodies: stages.bodies,
-            sides: polygons,
+            tree: polygons,
+            sides: sides,
             items: items,
             sorted: sorted,
             chain: chain,
@@ -107,6 +115,7 @@ impl Regions {
             areas: 4 * polygons,
             totals: totals,
             volumes: volumes,
+            boxes: boxes,
             falling: falling,
             thickness: falling + polygons,
             weights: falling + 2 * polygons,

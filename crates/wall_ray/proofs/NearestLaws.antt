@@ -1,28 +1,19 @@
 -- What trying every number finds: the nearest of those that pass the test, and it alone; and what that says of a ray's hit.
 use mathlib.Core.Path.{_≡_, refl, sym, ap, _∙_, subst}
-use mathlib.Core.Bool.{Bool, true, false, not, _&&_, cond}
+use mathlib.Core.Bool.{Bool, true, false, _&&_, cond}
 use mathlib.Core.Logic.{_⊎_, inl, inr}
-use mathlib.Core.List.{List}
 use Prim.Native.Nat.{ℕ, zero, suc, _≤_, _<_}
 use native.Mathlib.Omega.{arith}
-use lib.Ieee.{Float, Format, nan, inf, fin, add, sub, mul, lt, le, eq, isNan}
-use Rattle.num_float.proofs.Tests.{refuted, contrary, and-right, lt-or-ge}
+use lib.Ieee.{Float, lt, eq, isNan}
+use Rattle.num_float.proofs.Tests.{refuted, contrary, lt-or-ge}
 use Rattle.num_float.proofs.Order.{lt-trans, lt-irrefl, eq-lt-trans, eq-of-neither}
-use Rattle.list_laws.specs.Below.{allBelow}
-use Rattle.list_laws.proofs.Below.{all-each}
-use Rattle.math.specs.declared.Vec3.{Vec3}
-use Rattle.math.specs.Vector.{vec, plus, minus, times, dotOf, crossOf}
-use Rattle.math.specs.Vector as vector
-use Rattle.file_part.specs.Part.{Part, partOf}
-use Rattle.file_part.proofs.PartLaws.{part-polygons, part-count}
-use Rattle.file_ok.proofs.ReadableLaws.{readable-run}
-use Rattle.solid_faces.specs.Faces.{polygonCorner, polygonPlane, Checked}
-use Rattle.solid_faces.proofs.BodyLaws.{checked-readable}
+use Rattle.file_part.specs.Part.{Part}
 use Rattle.wall_ray.specs.declared.strike.Ray.{Ray}
 use Rattle.wall_ray.specs.declared.strike.Hit.{Hit}
 use Rattle.wall_ray.specs.declared.strike.Hit.the-variants.{At, Nothing}
-use Rattle.wall_ray.specs.Strike.{pointOf, isParallel, isWithin, hitTime, isInside, struck}
+use Rattle.wall_ray.specs.Strike.{hitTime, struck}
 use Rattle.wall_ray.specs.Nearest.{improves, best, NearestAt, Nearest, hitOf, Answer}
+use Rattle.wall_ray.proofs.StruckLaws.{struck-number}
 
 -- ---- any test and any times
 last : (q n : ℕ) → q < suc n → (q ≡ n) ⊎ (q < n)
@@ -128,53 +119,6 @@ module _ (t : Part) (r : Ray) where
   unfolding Nearest
   hit-nothing e = subst (Nearest (struck t r) (hitTime t r) (t .polygons)) e hit-is-nearest
 
--- ---- no polygon is struck at a NaN: there the ray is on the inner side of no side
-mul-nan : (f : Format) (x : Float) → mul f x nan ≡ nan
-unfolding mul
-mul-nan f nan = refl
-mul-nan f (inf s) = refl
-mul-nan f (fin s m e) = refl
-
-add-nan : (f : Format) (x : Float) → add f x nan ≡ nan
-unfolding add
-add-nan f nan = refl
-add-nan f (inf s) = refl
-add-nan f (fin s m e) = refl
-
-le-nan : (x : Float) → le x nan ≡ false
-unfolding le
-le-nan nan = refl
-le-nan (inf s) = refl
-le-nan (fin s m e) = refl
-
-point-nan : (r : Ray) → pointOf r nan ≡ vec nan nan nan
-unfolding pointOf plus times
-point-nan r = simp (mul-nan, add-nan)
-
-within-nan : (c : ℕ → Vec3) (n : ℕ) (m : Vec3) (k : ℕ) → isWithin c n m (vec nan nan nan) k ≡ false
-unfolding isWithin dotOf crossOf minus add sub mul
-within-nan c n m k = simp (mul-nan, le-nan)
-
-inside-number : (r : Ray) (c : ℕ → Vec3) (n : ℕ) (m : Vec3) (t : Float) → 0 < n → allBelow n (isWithin c n m (pointOf r t)) ≡ true → isNan t ≡ false
-unfolding isNan
-inside-number r c n m nan l h =
-    absurd (contrary (all-each n (isWithin c n m (pointOf r nan)) h 0 l) (ap (λ (q : Vec3). isWithin c n m q 0) (point-nan r) ∙ within-nan c n m 0))
-inside-number r c n m (inf s) l h = refl
-inside-number r c n m (fin s k e) l h = refl
-
-pub struck-number : (t : Part) (r : Ray) (p : ℕ) → 0 < t .polygon p .count → struck t r p ≡ true → isNan (hitTime t r p) ≡ false
-unfolding struck isInside
-struck-number t r p l h =
-    let meets = and-right (not (isParallel (polygonPlane t p) r)) _ h in
-    inside-number r (polygonCorner t p) (t .polygon p .count) (polygonPlane t p .normal) (hitTime t r p) l
-    (and-right (not (lt (hitTime t r p) vector.zero)) _ meets)
-
--- of a file that is not turned back, a ray's hit is the nearest, and nothing else is
-pub only-hit : (s : List ℕ) (r : Ray) (h : Hit) → Checked s → Nearest (struck (partOf s) r) (hitTime (partOf s) r) (partOf s .polygons) h →
-    h ≡ hitOf (partOf s) r
-only-hit s r h k w =
-    nearest-fixes (struck (partOf s) r) (hitTime (partOf s) r) (partOf s .polygons) (λ q l g. struck-number (partOf s) r q (sided q l) g)
-    h (hitOf (partOf s) r) w (hit-is-nearest (partOf s) r)
-  where
-    sided : (q : ℕ) → q < partOf s .polygons → 0 < partOf s .polygon q .count
-    sided q l = omega (arith, part-count s q, readable-run s (checked-readable s k) q (omega (arith, l, part-polygons s)) .least)
+  -- nothing else is the nearest
+  pub only-hit : (h : Hit) → Nearest (struck t r) (hitTime t r) (t .polygons) h → h ≡ hitOf t r
+  only-hit h w = nearest-fixes (struck t r) (hitTime t r) (t .polygons) (λ q l g. struck-number t r q g) h (hitOf t r) w hit-is-nearest

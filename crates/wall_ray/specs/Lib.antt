@@ -1,4 +1,6 @@
 -- What a ray strikes first.
 pub mod Corners
+pub mod Slab
 pub mod Strike
 pub mod Nearest
+pub mod Work

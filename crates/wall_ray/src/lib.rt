@@ -1,4 +1,6 @@
-// Rays through a part (dfm.rs's `raycast`), by trying every polygon.
+// Rays through a part, by trying every polygon.
+pub mod attempt;
 pub mod corner;
-pub mod raycast;
+pub mod scan;
+pub mod slab;
 pub mod strike;

@@ -4,6 +4,7 @@ ghost use mathlib.Core.Bool.{not, _&&_};
 ghost use Prim.Native.Nat.{_+_, _*_, _≤_, _<_};
 ghost use lib.ListN.{length};
 ghost use lib.Ieee.{lt};
+ghost use Rattle.list_laws.specs.Below.{allBelow};
 ghost use Rattle.num_real.specs.Select.{absOf};
 ghost use Rattle.math.specs.Vector.{zero, dotOf};
 ghost use Rattle.solid_polygon.specs.Polygon.{cornerAt};
@@ -115,4 +116,19 @@ pub fn is_within(file: &[u8], first: usize, n: usize, normal: Vec3, q: Vec3, k: 
     let a = corner(file, first + k);
     let b = corner(file, first + next(n, k));
     b.sub(a).cross(q.sub(a)).dot(normal) >= -1e-9
+}
+
+// Whether q lies on the inner side of each of the n sides.
+pub fn is_inside(file: &[u8], first: usize, n: usize, normal: Vec3, q: Vec3) -> bool
+    requires { ⌜ Corners (now file) first n ⌝ }
+    ensures { λ r. ⌜ r ≡ allBelow n (isWithin (cornerAt (now (file .entry)) first) n normal q) ⌝ }
+{
+    let mut k: usize = 0;
+    while k < n {
+        if !is_within(file, first, n, normal, q, k) {
+            return false;
+        }
+        k += 1;
+    }
+    true
 }

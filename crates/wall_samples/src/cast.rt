@@ -19,10 +19,10 @@ use file_part::read::run_length;
 use math::Vec3;
 use scratch::regions::Regions;
 use solid_polygon::polygon::centroid;
-use wall_ray::raycast::raycast;
 use wall_ray::strike::Hit;
 use wall_ray::strike::Ray;
 use wall_ray::strike::plane_at;
+use wall_tree::raycast::raycast;
 
 // The polygon that a ray starts from, the polygon that it hits, and how thick the part is between them.
 pub struct Reading {

@@ -21,11 +21,11 @@ use Rattle.solid_boxes.specs.Bounds.{Holds, Fit, Tidy}
 use Rattle.solid_boxes.specs.Tree.{boxAt}
 use Rattle.wall_ray.specs.declared.strike.Ray.{Ray}
 use Rattle.wall_tree.specs.declared.aim.Aim.{Aim}
-use Rattle.wall_tree.specs.declared.slab.Span.{Span}
-use Rattle.wall_tree.specs.Slab.{meets, moved, wholeRay, slabOf, passes}
-use Rattle.wall_tree.specs.Strikes.{inverseOf}
+use Rattle.wall_ray.specs.declared.slab.Span.{Span}
+use Rattle.wall_ray.specs.Slab.{meets, moved, wholeRay, slabOf, passes}
+use Rattle.wall_ray.specs.Strike.{inverseOf}
 use Rattle.wall_tree.specs.Work.{startOf, Axis, up, down, blind, Aimed, Sides, opensAt}
-use Rattle.wall_tree.proofs.SlabLaws.{later, sooner}
+use Rattle.wall_tree.proofs.SpanLaws.{later, sooner}
 use Rattle.wall_tree.proofs.AxisLaws.{low, high, Under, Over, near-up, far-up, near-down, far-down}
 
 -- ---- in the words of the code

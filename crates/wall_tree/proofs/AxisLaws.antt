@@ -11,7 +11,7 @@ use Rattle.num_order.specs.Factor.{sided, NonZero}
 use Rattle.num_order.proofs.Sums.{sub-le, sub-right, sub-number}
 use Rattle.num_order.proofs.Products.{mul-le, mul-number, edge-before, edge-after}
 use Rattle.solid_boxes.specs.Bounds.{Fit}
-use Rattle.wall_tree.specs.Slab.{meets, nearer, farther}
+use Rattle.wall_ray.specs.Slab.{meets, nearer, farther}
 
 -- where the stretch of an axis starts and ends; a NaN stands for the whole ray
 abbrev pub low : Float → Float → Float

@@ -16,7 +16,8 @@ use Rattle.wall_ray.specs.declared.strike.Hit.{Hit}
 use Rattle.wall_ray.specs.declared.strike.Hit.the-variants.{At, Nothing}
 use Rattle.wall_ray.specs.Nearest.{best, Nearest}
 use Rattle.wall_ray.proofs.NearestLaws.{best-is-nearest, nearest-fixes}
-use Rattle.wall_tree.specs.Work.{comes, tried, After, Best}
+use Rattle.wall_ray.specs.Work.{comes, tried}
+use Rattle.wall_tree.specs.Work.{After, Best}
 
 last : (q n : ℕ) → q < suc n → (q ≡ n) ⊎ (q < n)
 last q n h = ⊎-elim (λ l. inr l) (λ l. inl (omega (arith, h, l))) (lt-or-ge q n)
@@ -105,7 +106,7 @@ module _ (is : ℕ → Bool) (time : ℕ → Float) (ord : ℕ → ℕ) (n : ℕ
         let z = onto q l in
         rw (z .1 .1) at (w .all (z .0) (z .1 .0) (rw (sym (z .1 .1)) at g))
 
-    pub nearest : (h : Hit) → Best is time ord n n h → Nearest is time n h
+    nearest : (h : Hit) → Best is time ord n n h → Nearest is time n h
     unfolding Nearest
     nearest Nothing w = λ q l. refuted (is q) (λ g. after Nothing w q l g)
     nearest (At p t) w =

@@ -11,8 +11,6 @@ use Rattle.num_float.proofs.Tests.{refuted, contrary}
 use Rattle.num_float.proofs.Order.{lt-trans, eq-lt-trans, lt-irrefl, lt-le-trans, le-numbers, not-le-lt}
 use Rattle.num_order.proofs.Signed.{by-lt}
 use Rattle.num_order.proofs.Sums.{most}
-use Rattle.math.specs.declared.Vec3.{Vec3}
-use Rattle.math.specs.Vector.{plus, times}
 use Rattle.file_part.specs.Layout.{polygonCount}
 use Rattle.file_part.specs.Part.{Part, partOf}
 use Rattle.file_part.proofs.PartLaws.{part-polygons}
@@ -23,15 +21,16 @@ use Rattle.solid_boxes.proofs.OwnLaws.{own-tidy}
 use Rattle.wall_ray.specs.declared.strike.Ray.{Ray}
 use Rattle.wall_ray.specs.declared.strike.Hit.{Hit}
 use Rattle.wall_ray.specs.declared.strike.Hit.the-variants.{At, Nothing}
-use Rattle.wall_ray.specs.Strike.{hitTime}
-use Rattle.wall_ray.specs.Nearest.{best, Nearest, isNothing, e-4, rayFrom}
-use Rattle.wall_ray.proofs.NearestLaws.{best-is-nearest}
+use Rattle.wall_ray.specs.Slab.{endless}
+use Rattle.wall_ray.specs.Strike.{hitTime, ownSpan, struck}
+use Rattle.wall_ray.specs.Nearest.{best, Nearest, hitOf, Answer, isNothing}
+use Rattle.wall_ray.specs.Work.{tried}
+use Rattle.wall_ray.proofs.SlabLaws.{reached-passes, reached-after}
+use Rattle.wall_ray.proofs.StruckLaws.{struck-reached, struck-number}
+use Rattle.wall_ray.proofs.NearestLaws.{best-is-nearest, hit-answer}
 use Rattle.wall_tree.specs.declared.aim.Aim.{Aim}
-use Rattle.wall_tree.specs.Slab.{endless}
-use Rattle.wall_tree.specs.Strikes.{ownSpan, strikes, hitIn, AnswerIn, isOpenIn}
-use Rattle.wall_tree.specs.Work.{Aimed, opensAt, tried, limitOf, After, Real, Best, Kept}
-use Rattle.wall_tree.proofs.StrikesLaws.{strikes-reached, reached-passes, reached-after, strikes-number}
-use Rattle.wall_tree.proofs.BestLaws.{best-none, best-tried, best-past, nearest, best-scan}
+use Rattle.wall_tree.specs.Work.{Aimed, opensAt, limitOf, After, Real, Best, Kept}
+use Rattle.wall_tree.proofs.BestLaws.{best-none, best-tried, best-past, best-scan}
 use Rattle.wall_tree.proofs.AimLaws.{opens-sound}
 
 endless-inf : endless ≡ inf false
@@ -40,30 +39,30 @@ endless-inf = refl
 
 -- ---- one place more of the order
 pub kept-on : (s : List ℕ) (r : Ray) (words : List ℕ) (x p n : ℕ) (h k : Hit) → Order words n → partOf s .polygons ≡ n → x < n → p ≡ at words x →
-    k ≡ tried (strikes (partOf s) r) (hitTime (partOf s) r) h p → Kept (partOf s) r words x h → Kept (partOf s) r words (x + 1) k
+    k ≡ tried (struck (partOf s) r) (hitTime (partOf s) r) h p → Kept (partOf s) r words x h → Kept (partOf s) r words (x + 1) k
 unfolding Kept
 kept-on s r words x p n h k O e l ep ek w =
-    subst (Best (strikes (partOf s) r) (hitTime (partOf s) r) (at words) (partOf s .polygons) (x + 1))
-    (sym (ek ∙ ap (tried (strikes (partOf s) r) (hitTime (partOf s) r) h) ep))
-    (best-tried (strikes (partOf s) r) (hitTime (partOf s) r) (at words) (partOf s .polygons) x h (omega (arith, O .numbers x l, e)) w)
+    subst (Best (struck (partOf s) r) (hitTime (partOf s) r) (at words) (partOf s .polygons) (x + 1))
+    (sym (ek ∙ ap (tried (struck (partOf s) r) (hitTime (partOf s) r) h) ep))
+    (best-tried (struck (partOf s) r) (hitTime (partOf s) r) (at words) (partOf s .polygons) x h (omega (arith, O .numbers x l, e)) w)
 
 module _ (s : List ℕ) (C : Checked s) (r : Ray) where
   abbrev t : Part
   t = partOf s
 
-  kept-number : (q : ℕ) (u : Float) → Real (strikes t r) (hitTime t r) (t .polygons) (At q u) → isNan u ≡ false
-  kept-number q u w = subst (λ (k : Float). isNan k ≡ false) (sym (w .1 .1)) (strikes-number t r q (w .1 .0))
+  kept-number : (q : ℕ) (u : Float) → Real (struck t r) (hitTime t r) (t .polygons) (At q u) → isNan u ≡ false
+  kept-number q u w = subst (λ (k : Float). isNan k ≡ false) (sym (w .1 .1)) (struck-number t r q (w .1 .0))
 
   -- what is entered beyond the limit does not come first
-  pruned : (p : ℕ) (h : Hit) → Real (strikes t r) (hitTime t r) (t .polygons) h → strikes t r p ≡ true →
+  pruned : (p : ℕ) (h : Hit) → Real (struck t r) (hitTime t r) (t .polygons) h → struck t r p ≡ true →
       (le (ownSpan t r p .t0) (limitOf h) ≡ true → ⊥) →
       After h p (hitTime t r p)
   unfolding limitOf
   pruned p Nothing w g f =
       f (subst (λ (k : Float). le (ownSpan t r p .t0) k ≡ true) (sym endless-inf)
-      (most (ownSpan t r p .t0) (le-numbers _ _ (reached-after (ownSpan t r p) (hitTime t r p) (strikes-reached t r p g)) .0)))
+      (most (ownSpan t r p .t0) (le-numbers _ _ (reached-after (ownSpan t r p) (hitTime t r p) (struck-reached t r p g)) .0)))
   pruned p (At q u) w g f =
-      let c = reached-after (ownSpan t r p) (hitTime t r p) (strikes-reached t r p g) in
+      let c = reached-after (ownSpan t r p) (hitTime t r p) (struck-reached t r p g) in
       let b = not-le-lt (ownSpan t r p .t0) u (le-numbers _ _ c .0) (kept-number q u w) (refuted _ f) in
       let d : lt u (hitTime t r p) ≡ true = lt-le-trans u (ownSpan t r p .t0) (hitTime t r p) b c in (
         refuted (lt (hitTime t r p) u) (λ k. contrary (lt-trans u (hitTime t r p) u d k) (lt-irrefl u)),
@@ -97,14 +96,14 @@ module _ (s : List ℕ) (C : Checked s) (r : Ray) where
         Kept t r words (startAt words n j) h → Kept t r words (startAt words n (skipAt words n j)) h
     unfolding ownSpan Kept
     past a A j l h limit b el eb f w =
-        best-past (strikes t r) (hitTime t r) (at words) (t .polygons) (startAt words n j) (startAt words n (skipAt words n j)) h w
+        best-past (struck t r) (hitTime t r) (at words) (t .polygons) (startAt words n j) (startAt words n (skipAt words n j)) h w
         (λ x lo hi g.
         let y : x < n = omega (arith, tree .starts .inside (skipAt words n j) (tree .within j l)) in
         let p : at words x < t .polygons = omega (arith, en, tree .ordered .numbers x y) in
         pruned (at words x) h (w .real) g
         (λ e. contrary
         (opens-sound boxes j a r A (padded (ownBox t (at words x))) (tree .holds j x l lo hi) (own-tidy s C (at words x) p) limit
-        (reached-passes (ownSpan t r (at words x)) (hitTime t r (at words x)) (strikes-reached t r (at words x) g))
+        (reached-passes (ownSpan t r (at words x)) (hitTime t r (at words x)) (struck-reached t r (at words x) g))
         (subst (λ (k : Float). le (ownSpan t r (at words x) .t0) k ≡ true) (sym el) e))
         (sym eb ∙ f)))
 
@@ -160,33 +159,30 @@ module _ (s : List ℕ) (C : Checked s) (r : Ray) where
     pub begin : 0 ≡ startAt words n 0
     begin = sym (tree .starts .first)
 
-    numbers : (q : ℕ) → q < t .polygons → strikes t r q ≡ true → isNan (hitTime t r q) ≡ false
-    numbers q l g = strikes-number t r q g
+    numbers : (q : ℕ) → q < t .polygons → struck t r q ≡ true → isNan (hitTime t r q) ≡ false
+    numbers q l g = struck-number t r q g
 
     places : (p : ℕ) → p < t .polygons → (x : ℕ) × ((x < t .polygons) × (at words x ≡ p))
     places p l = let z = tree .ordered .onto p (omega (arith, l, en)) in (z .place, (omega (arith, z .below, en), z .is))
 
-    pub done : (j a : ℕ) (h : Hit) → j ≤ m → a ≡ startAt words n j → n ≤ a → Kept t r words a h → AnswerIn t r h
-    unfolding hitIn Kept
+    pub done : (j a : ℕ) (h : Hit) → j ≤ m → a ≡ startAt words n j → n ≤ a → Kept t r words a h → Answer t r h
+    unfolding hitOf Kept
     done j a h l e z w =
-        let k = subst (λ (x : ℕ). Kept t r words x h) (at-end j a l e z ∙ en) w in
-        record {
-          scanned = best-scan (strikes t r) (hitTime t r) (at words) (t .polygons) places numbers h k;
-          nearest = nearest (strikes t r) (hitTime t r) (at words) (t .polygons) places h k;
-        }
+        hit-answer t r h
+        (best-scan (struck t r) (hitTime t r) (at words) (t .polygons) places numbers h (subst (λ (x : ℕ). Kept t r words x h) (at-end j a l e z ∙ en) w))
 
   pub none-kept : (words : List ℕ) → Kept t r words 0 Nothing
   unfolding Kept
-  none-kept words = best-none (strikes t r) (hitTime t r) (at words) (t .polygons)
+  none-kept words = best-none (struck t r) (hitTime t r) (at words) (t .polygons)
 
   -- ---- a strike shows that the hit is not Nothing
-  pub stops : (words : List ℕ) (c : ℕ) (h : Hit) (b : Bool) → Kept t r words c h → b ≡ isNothing h → b ≡ false → false ≡ isNothing (hitIn t r)
-  unfolding isNothing hitIn Kept
+  pub stops : (words : List ℕ) (c : ℕ) (h : Hit) (b : Bool) → Kept t r words c h → b ≡ isNothing h → b ≡ false → false ≡ isNothing (hitOf t r)
+  unfolding isNothing hitOf Kept
   stops words c Nothing b w e f = absurd (contrary e f)
   stops words c (At p u) b w e f =
-      go (best (strikes t r) (hitTime t r) (t .polygons)) (best-is-nearest (strikes t r) (hitTime t r) (t .polygons))
+      go (best (struck t r) (hitTime t r) (t .polygons)) (best-is-nearest (struck t r) (hitTime t r) (t .polygons))
     where
-      go : (k : Hit) → Nearest (strikes t r) (hitTime t r) (t .polygons) k → false ≡ isNothing k
+      go : (k : Hit) → Nearest (struck t r) (hitTime t r) (t .polygons) k → false ≡ isNothing k
       go (At q v) n = refl
       go Nothing n = absurd (contrary (w .real .1 .0) (unfold Nearest in n p (w .real .0)))
 
@@ -195,12 +191,6 @@ module _ (s : List ℕ) (C : Checked s) (r : Ray) where
   goes-on words c Nothing b w e f = w
   goes-on words c (At p u) b w e f = absurd (contrary f e)
 
-  pub clear : Nothing ≡ hitIn t r → true ≡ isNothing (hitIn t r)
+  pub clear : Nothing ≡ hitOf t r → true ≡ isNothing (hitOf t r)
   unfolding isNothing
   clear f = ap isNothing f
-
--- ---- `open_towards`: the ray m = dir * 1e-4 further on
-pub open-is : (t : Part) (p dir m o : Vec3) (b : Bool) → m ≡ times dir e-4 → o ≡ plus p m → b ≡ isNothing (hitIn t (record { origin = o; dir = dir })) →
-    b ≡ isOpenIn t p dir
-unfolding isOpenIn rayFrom
-open-is t p dir m o b em eo eb = eb ∙ rw (eo, em)

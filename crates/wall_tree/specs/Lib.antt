@@ -1,4 +1,2 @@
--- What a ray strikes where a polygon counts only inside its own box.
-pub mod Slab
-pub mod Strikes
+-- A ray through a tree of boxes.
 pub mod Work

@@ -1,9 +1,8 @@
 -- What the functions of this crate leave on the way. A reader may pass over it.
 use mathlib.Core.Path.{_≡_}
-use mathlib.Core.Bool.{Bool, true, false, _&&_, _||_, cond}
+use mathlib.Core.Bool.{Bool, true, false, cond}
 use mathlib.Core.List.{List}
 use Prim.Native.Nat.{ℕ, _+_, _-_, _*_, _≤_, _<_}
-use lib.Dec.{ltb}
 use lib.ListN.{getD}
 use lib.Ieee.{Float, nan, lt, eq, le, isNan}
 use Rattle.num_float.specs.Order.{lesser, greater}
@@ -13,10 +12,9 @@ use Rattle.solid_boxes.specs.Tree.{at}
 use Rattle.wall_ray.specs.declared.strike.Ray.{Ray}
 use Rattle.wall_ray.specs.declared.strike.Hit.{Hit}
 use Rattle.wall_ray.specs.declared.strike.Hit.the-variants.{At, Nothing}
-use Rattle.wall_ray.specs.Strike.{hitTime}
+use Rattle.wall_ray.specs.Slab.{meets, endless}
+use Rattle.wall_ray.specs.Strike.{hitTime, inverseOf, struck}
 use Rattle.wall_tree.specs.declared.aim.Aim.{Aim}
-use Rattle.wall_tree.specs.Slab.{meets, endless}
-use Rattle.wall_tree.specs.Strikes.{inverseOf, strikes}
 
 -- ---- a ray as the boxes of a tree are tried
 -- the start on an axis, where the inverse direction i has a sign; else a NaN, by which the axis tells nothing
@@ -56,15 +54,7 @@ opensAt l j a limit =
     (meets (getD l (6 * j + (5 - a .y)) nan) (a .origin .y) (a .inv .y)))
     (meets (getD l (6 * j + (7 - a .z)) nan) (a .origin .z) (a .inv .z)))
 
--- ---- trying polygons in any order
--- p at t comes before what is kept: sooner, or as soon and of a lower number
-unfoldable pub comes : Hit → ℕ → Float → Bool
-comes (At q s) p t = lt t s || (eq t s && ltb p q)
-comes Nothing p t = true
-
-unfoldable pub tried : (ℕ → Bool) → (ℕ → Float) → Hit → ℕ → Hit
-tried is time h p = cond (is p && comes h p (time p)) (At p (time p)) h
-
+-- ---- what is kept
 -- how far along the ray something can still come first
 unfoldable pub limitOf : Hit → Float
 limitOf (At q s) = s
@@ -87,7 +77,7 @@ pub record Best (is : ℕ → Bool) (time : ℕ → Float) (ord : ℕ → ℕ) (
 
 -- of what a ray strikes, with the polygons in the order of a tree
 unfoldable pub Kept : Part → Ray → List ℕ → ℕ → Hit → Type 0
-Kept t r words c h = Best (strikes t r) (hitTime t r) (at words) (t .polygons) c h
+Kept t r words c h = Best (struck t r) (hitTime t r) (at words) (t .polygons) c h
 
 -- what is kept of the places before a becomes what is kept of those before e
 pub record Tried (t : Part) (r : Ray) (words : List ℕ) (h : Hit) (a e : ℕ) (k : Hit) : Type 0 where

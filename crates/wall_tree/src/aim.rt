@@ -6,11 +6,11 @@ ghost use lib.ListN.{length, getD};
 ghost use lib.Ieee.{nan, lt};
 ghost use Rattle.num_float.specs.Order.{lesser, greater};
 ghost use Rattle.math.specs.Vector.{zero};
-ghost use Rattle.wall_tree.specs.Slab.{meets};
+ghost use Rattle.wall_ray.specs.Slab.{meets};
 ghost use Rattle.wall_tree.specs.Work.{startOf, Aimed, Sides, opensAt};
-use crate::slab::inverse;
-use crate::slab::meeting;
 use math::Vec3;
+use wall_ray::slab::inverse;
+use wall_ray::slab::meeting;
 use wall_ray::strike::Ray;
 
 // origin and inv: the ray's start and inverse direction; the start is a NaN on an axis that tells nothing. x, y and z: which of a box's six numbers the

@@ -5,16 +5,15 @@ ghost use Rattle.file_part.specs.Part.{partOf};
 ghost use Rattle.solid_faces.specs.Faces.{Checked};
 ghost use Rattle.solid_faces.specs.Kept.{KeptPlanes};
 ghost use Rattle.solid_boxes.specs.Tree.{PartTree};
-ghost use Rattle.wall_ray.specs.Nearest.{isNothing};
-ghost use Rattle.wall_tree.specs.Strikes.{AnswerIn, hitIn};
+ghost use Rattle.wall_ray.specs.Nearest.{hitOf, isNothing, Answer};
 use crate::aim::aim_of;
 use crate::aim::is_open;
-use crate::attempt::is_nothing;
 use crate::attempt::limit;
 use crate::attempt::try_leaf;
 use file_part::read::polygon_count;
 use file_part::read::vertex_count;
 use list_cells::cell;
+use wall_ray::attempt::is_nothing;
 use wall_ray::strike::Hit;
 use wall_ray::strike::Ray;
 
@@ -22,7 +21,7 @@ use wall_ray::strike::Ray;
 pub fn nearest(file: &[u8], planes: &[f64], boxes: &[f64], words: &[u32], ray: Ray) -> Hit
     requires { ⌜ Checked (now file) ⌝ ∗ ⌜ KeptPlanes (partOf (now file)) (polygonCount (now file)) (now planes) ⌝ }
     requires { ⌜ PartTree (partOf (now file)) (now boxes) (now words) ⌝ }
-    ensures { λ r. ⌜ AnswerIn (partOf (now (file .entry))) ray r ⌝ }
+    ensures { λ r. ⌜ Answer (partOf (now (file .entry))) ray r ⌝ }
 {
     let vertices = vertex_count(file);
     let polygons = polygon_count(file);
@@ -49,7 +48,7 @@ pub fn nearest(file: &[u8], planes: &[f64], boxes: &[f64], words: &[u32], ray: R
 pub fn is_clear(file: &[u8], planes: &[f64], boxes: &[f64], words: &[u32], ray: Ray) -> bool
     requires { ⌜ Checked (now file) ⌝ ∗ ⌜ KeptPlanes (partOf (now file)) (polygonCount (now file)) (now planes) ⌝ }
     requires { ⌜ PartTree (partOf (now file)) (now boxes) (now words) ⌝ }
-    ensures { λ r. ⌜ r ≡ isNothing (hitIn (partOf (now (file .entry))) ray) ⌝ }
+    ensures { λ r. ⌜ r ≡ isNothing (hitOf (partOf (now (file .entry))) ray) ⌝ }
 {
     let vertices = vertex_count(file);
     let polygons = polygon_count(file);

@@ -40,13 +40,13 @@ part-volumes-end-2 : tie.Need-part-volumes-end-2
 part-volumes-end-2 c = omega (arith, c .before .before .before .before .before .before .pre .0 .laid, c .before .before .before .before .before .before .pre .1 .1 .1)
 
 volumes-requires : tie.Need-volumes-requires
-volumes-requires c κs = (checked-readable _ (c .before .before .before .before .before .before .before .pre .0 .checked), (labels-lent _ (c .before .before .before .before .before .before .before .args .at) (now (c .before .before .before .before .before .before .before .args .words)) (c .before .before .before .before .before .before .before .pre .0 .laid) (c .before .before .before .before .before .before .before .pre .1 .0) (placed-polygons _ _ (c .before .before .before .before .before .before .before .pre .0)) (c .before .before .before .before .before .before .before .pre .1 .1 .0) (not-false _ (c .before .before .if1 .left)), part-length (c .before .before .before .before .before .before .before .args .at .volumes) (c .before .before .before .before .before .before .before .args .at .falling) (c .before .before .before .before .before .before .before .args .reals .now) (omega (arith, c .before .before .before .before .before .before .before .pre .0 .laid, c .before .before .before .before .before .before .before .pre .1 .1 .1)) ∙ omega (arith, c .before .before .before .before .before .before .before .pre .0 .laid, c .before .before .before .before .before .before .before .pre .0)))
+volumes-requires c κs = (checked-readable _ (c .before .before .before .before .before .before .before .pre .0 .checked), (labels-lent _ (c .before .before .before .before .before .before .before .args .at) (now (c .before .before .before .before .before .before .before .args .words)) (c .before .before .before .before .before .before .before .pre .0 .laid) (c .before .before .before .before .before .before .before .pre .1 .0) (placed-polygons _ _ (c .before .before .before .before .before .before .before .pre .0)) (c .before .before .before .before .before .before .before .pre .1 .1 .0) (not-false _ (c .before .before .if1 .left)), part-length (c .before .before .before .before .before .before .before .args .at .volumes) (c .before .before .before .before .before .before .before .args .at .boxes) (c .before .before .before .before .before .before .before .args .reals .now) (omega (arith, c .before .before .before .before .before .before .before .pre .0 .laid, c .before .before .before .before .before .before .before .pre .1 .1 .1)) ∙ omega (arith, c .before .before .before .before .before .before .before .pre .0 .laid, c .before .before .before .before .before .before .before .pre .0)))
 
 same-length : tie.Need-same-length
 same-length c = search needs
 
 returns-2 : tie.Need-returns-2
-returns-2 c = volumes-put _ (c .before .before .before .before .before .before .before .before .before .before .args .at) (c .before .before .before .before .before .before .before .before .before .before .pre .0 .laid) (c .before .before .before .before .before .before .before .before .before .before .args .reals .now) (c .before .before .before .before .before .before .before .before .before .before .pre .1 .1 .1) (c .before .before .volumes .last .1 .1 .0) (c .before .before .volumes .kept .1 .1 .0 ∙ part-length (c .before .before .before .before .before .before .before .before .before .before .args .at .volumes) (c .before .before .before .before .before .before .before .before .before .before .args .at .falling) (c .before .before .before .before .before .before .before .before .before .before .args .reals .now) (omega (arith, c .before .before .before .before .before .before .before .before .before .before .pre .0 .laid, c .before .before .before .before .before .before .before .before .before .before .pre .1 .1 .1))) (c .before .before .volumes .ensures)
+returns-2 c = volumes-put _ (c .before .before .before .before .before .before .before .before .before .before .args .at) (c .before .before .before .before .before .before .before .before .before .before .pre .0 .laid) (c .before .before .before .before .before .before .before .before .before .before .args .reals .now) (c .before .before .before .before .before .before .before .before .before .before .pre .1 .1 .1) (c .before .before .volumes .last .1 .1 .0) (c .before .before .volumes .kept .1 .1 .0 ∙ part-length (c .before .before .before .before .before .before .before .before .before .before .args .at .volumes) (c .before .before .before .before .before .before .before .before .before .before .args .at .boxes) (c .before .before .before .before .before .before .before .before .before .before .args .reals .now) (omega (arith, c .before .before .before .before .before .before .before .before .before .before .pre .0 .laid, c .before .before .before .before .before .before .before .before .before .before .pre .1 .1 .1))) (c .before .before .volumes .ensures)
 
 pub put-volumes-spec : {M : Type 1} → statement M
 put-volumes-spec =

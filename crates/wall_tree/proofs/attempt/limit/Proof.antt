@@ -2,7 +2,7 @@
 use borrow.Author.Needs.{needs}
 use mathlib.Core.Path.{ap, sym, _∙_}
 use Rattle.wall_tree.specs.Work.{limitOf}
-use Rattle.wall_tree.proofs.SlabLaws.{endless-is}
+use Rattle.wall_ray.proofs.SlabLaws.{endless-is}
 use Rattle.wall_tree.proofs.attempt.limit.Statement.{statement}
 use Rattle.wall_tree.proofs.attempt.limit.Tie as tie
 

@@ -1,9 +1,12 @@
 -- `scratch::regions::Regions::lay` meets its contract: region by region.
+use borrow.Author.Needs.{needs}
 use mathlib.Core.Path.{refl}
 use native.Mathlib.Omega.{arith}
-use borrow.Author.Needs.{needs}
 use Rattle.scratch.proofs.regions.Regions.lay.Statement.{statement}
 use Rattle.scratch.proofs.regions.Regions.lay.Tie as tie
+
+mul-sides : tie.Need-mul-sides
+mul-sides c = search needs
 
 mul-items : tie.Need-mul-items
 mul-items c = search needs
@@ -50,6 +53,12 @@ mul-totals c = search needs
 add-volumes : tie.Need-add-volumes
 add-volumes c = search needs
 
+add-boxes : tie.Need-add-boxes
+add-boxes c = search needs
+
+mul-falling : tie.Need-mul-falling
+mul-falling c = search needs
+
 add-falling : tie.Need-add-falling
 add-falling c = search needs
 
@@ -65,20 +74,14 @@ mul-directions c = search needs
 add-directions : tie.Need-add-directions
 add-directions c = search needs
 
-mul-t17 : tie.Need-mul-t17
-mul-t17 c = search needs
-
-add-t18 : tie.Need-add-t18
-add-t18 c = search needs
-
-add-t19 : tie.Need-add-t19
-add-t19 c = search needs
+mul-t19 : tie.Need-mul-t19
+mul-t19 c = search needs
 
 add-t20 : tie.Need-add-t20
 add-t20 c = search needs
 
-mul-t21 : tie.Need-mul-t21
-mul-t21 c = search needs
+add-t21 : tie.Need-add-t21
+add-t21 c = search needs
 
 add-t22 : tie.Need-add-t22
 add-t22 c = search needs
@@ -95,23 +98,30 @@ mul-t25 c = search needs
 add-t26 : tie.Need-add-t26
 add-t26 c = search needs
 
-add-t27 : tie.Need-add-t27
-add-t27 c = search needs
+mul-t27 : tie.Need-mul-t27
+mul-t27 c = search needs
 
-mul-t28 : tie.Need-mul-t28
-mul-t28 c = search needs
+add-t28 : tie.Need-add-t28
+add-t28 c = search needs
 
 add-t29 : tie.Need-add-t29
 add-t29 c = search needs
 
-add-t30 : tie.Need-add-t30
-add-t30 c = search needs
+mul-t30 : tie.Need-mul-t30
+mul-t30 c = search needs
+
+add-t31 : tie.Need-add-t31
+add-t31 c = search needs
+
+add-t32 : tie.Need-add-t32
+add-t32 c = search needs
 
 returns : tie.Need-returns
 returns c = (
   record {
     few = omega arith;
     short = omega arith;
+    tree = omega arith;
     sides = omega arith;
     work = omega arith;
     items = omega arith;
@@ -128,6 +138,7 @@ returns c = (
     areas = omega arith;
     totals = omega arith;
     volumes = omega arith;
+    boxes = omega arith;
     falling = omega arith;
     thickness = omega arith;
     weights = omega arith;
@@ -143,6 +154,7 @@ pub lay-spec : {M : Type 1} → statement M
 lay-spec =
     tie.close
     (tie.spec
+    mul-sides
     mul-items
     add-items
     add-sorted
@@ -158,23 +170,25 @@ lay-spec =
     add-kinds
     mul-totals
     add-volumes
+    add-boxes
+    mul-falling
     add-falling
     mul-rounds
     add-rounds
     mul-directions
     add-directions
-    mul-t17
-    add-t18
-    add-t19
+    mul-t19
     add-t20
-    mul-t21
+    add-t21
     add-t22
     mul-t23
     add-t24
     mul-t25
     add-t26
-    add-t27
-    mul-t28
+    mul-t27
+    add-t28
     add-t29
-    add-t30
+    mul-t30
+    add-t31
+    add-t32
     returns)
