@@ -33,7 +33,7 @@ enum {
     GABLEMADDER_BAD_POLYGON = 7,         /* polygon entry out of the rules, or vertices left after the last run */
     GABLEMADDER_FLAT_POLYGON = 8,        /* a polygon without a plane: its normal sum is shorter than 1e-14 */
     GABLEMADDER_TOO_MANY_FACES = 9,      /* over 1,024 faces */
-    GABLEMADDER_TOO_LITTLE_SCRATCH = 10, /* f64 scratch under 16P + 8V + 2,048 or u32 scratch under 8P + 8V + 1,024 */
+    GABLEMADDER_TOO_LITTLE_SCRATCH = 10, /* f64 scratch under 24P + 8V + 2,048 or u32 scratch under 12P + 8V + 1,024 */
     GABLEMADDER_TOO_MANY_FAULTS = 11,    /* more faults than fault rows lent, or over 2,048 */
     GABLEMADDER_REPORT_TOO_LONG = 12,    /* report longer than its buffer */
     GABLEMADDER_NO_DECIMAL = 13          /* decimal text: number not finite, below 0, or 2^60 and more; places over 3; buffer under 24 bytes */
@@ -51,8 +51,8 @@ enum {
 #define GABLEMADDER_LEAST_DECIMAL 24
 
 /* ---- how much to lend for a part of V vertices and P polygons: elements, not bytes */
-#define GABLEMADDER_WORDS(V, P) (8 * (size_t)(P) + 8 * (size_t)(V) + 1024)
-#define GABLEMADDER_REALS(V, P) (16 * (size_t)(P) + 8 * (size_t)(V) + 2048)
+#define GABLEMADDER_WORDS(V, P) (12 * (size_t)(P) + 8 * (size_t)(V) + 1024)
+#define GABLEMADDER_REALS(V, P) (24 * (size_t)(P) + 8 * (size_t)(V) + 2048)
 #define GABLEMADDER_FILE_LENGTH(V, P) (24 * (size_t)(V) + 80 * (size_t)(P) + 144)
 
 /* The u32 of a part file, little-endian, that ends so many bytes before the file's end. */

@@ -7,7 +7,8 @@ use crate::part::Part;
 use crate::random::Random;
 use crate::shapes::pick;
 use crate::{
-    bores, brackets, change, damage, file, fit, floors, hollows, ids, jobs, machining, many, over, shapes, sheet_jobs, sheet_limits, voxels, walls,
+    bores, brackets, change, damage, file, fit, floors, hollows, ids, jobs, machining, many, over, shapes, sheet_jobs, sheet_limits, trees, voxels,
+    walls,
 };
 
 /// As the generator draws it, or as the tests of machining, sheet metal and printing do.
@@ -27,7 +28,7 @@ fn job(random: &mut Random) -> Vec<u8> {
 }
 
 fn shape(random: &mut Random) -> Mesh {
-    match random.below(20) {
+    match random.below(23) {
         0..=3 => voxels::draw(random),
         4..=6 => brackets::draw(random),
         7 => brackets::squares(random),
@@ -46,12 +47,17 @@ fn shape(random: &mut Random) -> Mesh {
         // with a job for printing
         17 => pick(random, &[over::plate, over::small])(random),
         18 => pick(random, &[over::sums, over::bored])(random),
+        20..=22 => trees::draw(random),
         _ => hollows::draw(random),
     }
 }
 
+/// Now and then of about as many polygons as are scanned at the most, before they are walked.
 pub fn draw(random: &mut Random) -> Mesh {
     let mut mesh = shape(random);
+    if random.below(6) == 0 {
+        trees::about_scanned(random, &mut mesh);
+    }
     if random.below(3) != 0 {
         mesh.job = job(random);
     }

@@ -8,8 +8,13 @@ use std::collections::{BTreeMap, HashSet};
 
 /// How often each has to occur.
 const RAREST: u64 = 100;
-/// But for these, each of which costs much or has few forms.
-const FEWER: [(&str, u64); 8] = [
+/// But for these, the first of which are what rays by a tree are tried on, and each of the others costs much or has few forms.
+const LEAST: [(&str, u64); 13] = [
+    ("9 to 4,096 polygons", 500_000),
+    ("15 polygons", 5_000),
+    ("16 polygons", 5_000),
+    ("17 polygons", 5_000),
+    ("18 polygons", 5_000),
     ("2047 faults", 3),
     ("2048 faults", 3),
     ("2049 faults", 3),
@@ -20,13 +25,19 @@ const FEWER: [(&str, u64); 8] = [
     ("a line of more than 1,000 faces", 3),
 ];
 
-const POLYGONS: [(&str, std::ops::RangeInclusive<usize>); 6] = [
+/// Parts of up to 16 polygons are scanned by their rays, others walked.
+const POLYGONS: [(&str, std::ops::RangeInclusive<usize>); 11] = [
     ("no polygons", 0..=0),
     ("up to 10 polygons", 1..=10),
     ("up to 100 polygons", 11..=100),
     ("up to 1,000 polygons", 101..=1000),
     ("up to 4,095 polygons", 1001..=4095),
     ("4,096 polygons", 4096..=4096),
+    ("9 to 4,096 polygons", 9..=4096),
+    ("15 polygons", 15..=15),
+    ("16 polygons", 16..=16),
+    ("17 polygons", 17..=17),
+    ("18 polygons", 18..=18),
 ];
 
 const OF_A_REPORT: [&str; 9] = [
@@ -56,7 +67,7 @@ impl Seen {
         names.extend(FINDINGS.iter().filter(|f| !NEVER_MERGED.contains(&f.1)).map(|f| format!("merged {}", f.1)));
         names.extend(PROCESSES.map(|p| format!("accepted, {p}")));
         names.extend(OF_A_REPORT.iter().chain(&["1,000 runs of `corner`"]).map(|what| what.to_string()));
-        names.extend(POLYGONS.iter().map(|p| p.0).chain(FEWER.map(|f| f.0)).map(String::from));
+        names.extend(POLYGONS.iter().map(|p| p.0).chain(LEAST.map(|f| f.0)).map(String::from));
         names.extend(SLICES.iter().flat_map(|slice| SIDES.map(|side| format!("{slice}: {side}"))));
         Seen(names.into_iter().map(|name| (name, 0)).collect())
     }
@@ -150,7 +161,7 @@ impl Seen {
 
     /// What occurs fewer times than it has to, of those that are wanted.
     pub fn too_rare(&self) -> Vec<String> {
-        let least = |what: &str| FEWER.iter().find(|f| f.0 == what).map_or(RAREST, |f| f.1);
+        let least = |what: &str| LEAST.iter().find(|f| f.0 == what).map_or(RAREST, |f| f.1);
         Seen::wanted().0.into_keys().filter(|what| self.count(what) < least(what)).collect()
     }
 }

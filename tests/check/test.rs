@@ -83,6 +83,8 @@ mod stream;
 mod sweep;
 #[path = "../lib/tally.rs"]
 mod tally;
+#[path = "../rays/trees.rs"]
+mod trees;
 #[path = "../printing/ups.rs"]
 #[allow(dead_code)]
 mod ups;

@@ -5,7 +5,7 @@ mod bores;
 #[path = "../sheet/brackets.rs"]
 #[allow(dead_code)]
 mod brackets;
-#[path = "../body/change.rs"]
+#[path = "../shapes/change.rs"]
 mod change;
 #[path = "../check/compare.rs"]
 #[allow(dead_code)]
@@ -48,7 +48,7 @@ mod lent;
 mod machining;
 #[path = "../check/many.rs"]
 mod many;
-#[path = "../body/mesh.rs"]
+#[path = "../shapes/mesh.rs"]
 mod mesh;
 #[path = "../printing/over.rs"]
 #[allow(dead_code)]
@@ -69,12 +69,12 @@ mod random;
 mod ring;
 #[path = "../part/sample.rs"]
 mod sample;
-#[path = "../body/scratch.rs"]
+#[path = "../lib/scratch.rs"]
 mod scratch;
 #[path = "../check/seen.rs"]
 #[allow(dead_code)]
 mod seen;
-#[path = "../body/shapes.rs"]
+#[path = "../shapes/shapes.rs"]
 mod shapes;
 #[path = "../oracle/generate/sheet.rs"]
 #[allow(dead_code)]
@@ -102,6 +102,8 @@ mod ups;
 #[path = "../machining/voxels.rs"]
 #[allow(dead_code)]
 mod voxels;
+#[path = "../rays/trees.rs"]
+mod trees;
 #[path = "../rays/walls.rs"]
 mod walls;
 

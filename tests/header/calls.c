@@ -8,8 +8,8 @@
 enum { FACES = GABLEMADDER_MOST_FACES + 1, V = 3 * FACES, LONGEST = 24 * V + 80 * FACES + 144, PLATE = 1200 };
 
 static uint8_t plate[PLATE + 1], wanted[1024], report[1024], part[LONGEST];
-static uint32_t words[8 * FACES + 8 * V + 1024];
-static double reals[16 * FACES + 8 * V + 2048];
+static uint32_t words[12 * FACES + 8 * V + 1024];
+static double reals[24 * FACES + 8 * V + 2048];
 static gablemadder_fault_row rows[4];
 static size_t wanted_len, written;
 static int calls, wrong;
@@ -94,8 +94,8 @@ static void layout(void) {
 static void sizes(void) {
     size_t v = 0, p = 0;
     expect("counts of the plate", gablemadder_counts(plate, PLATE, &v, &p) == 1 && v == 24 && p == 6);
-    expect("words of the plate", gablemadder_words(plate, PLATE) == 8 * 6 + 8 * 24 + 1024);
-    expect("reals of the plate", gablemadder_reals(plate, PLATE) == 16 * 6 + 8 * 24 + 2048);
+    expect("words of the plate", gablemadder_words(plate, PLATE) == 12 * 6 + 8 * 24 + 1024);
+    expect("reals of the plate", gablemadder_reals(plate, PLATE) == 24 * 6 + 8 * 24 + 2048);
     expect("no words of a file too short", gablemadder_words(NULL, 0) == 0 && gablemadder_words(plate, 143) == 0);
     expect("no reals of a file too long", gablemadder_reals(plate, PLATE + 1) == 0);
 }

@@ -57,6 +57,14 @@ mod c {
             cells: *mut u32,
             cells_len: usize,
         ) -> u32;
+        pub fn gablemadder_put_tree(
+            file: *const u8,
+            len: usize,
+            words: *mut u32,
+            words_len: usize,
+            reals: *mut f64,
+            reals_len: usize,
+        ) -> u32;
         pub fn gablemadder_raycast(
             file: *const u8,
             len: usize,
@@ -182,6 +190,11 @@ pub fn raycast(file: &[u8], words: &mut [u32], reals: &mut [f64], rays: &[f64], 
 pub fn sample_list(file: &[u8], words: &mut [u32], reals: &mut [f64], faces: &mut [u32], numbers: &mut [f64]) -> u32 {
     let (w, r, f, n) = (words.as_mut_ptr(), reals.as_mut_ptr(), faces.as_mut_ptr(), numbers.as_mut_ptr());
     unsafe { c::gablemadder_sample_list(file.as_ptr(), file.len(), w, words.len(), r, reals.len(), f, faces.len(), n, numbers.len()) }
+}
+
+/// The tree of boxes alone, in the first cells of the scratch, and 0; or the refusal from 1 to 10.
+pub fn put_tree(file: &[u8], words: &mut [u32], reals: &mut [f64]) -> u32 {
+    unsafe { c::gablemadder_put_tree(file.as_ptr(), file.len(), words.as_mut_ptr(), words.len(), reals.as_mut_ptr(), reals.len()) }
 }
 
 /// Of each ray 1 where the line leaves the part, else 0, after the body in the scratch.

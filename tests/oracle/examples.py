@@ -32,7 +32,7 @@ def with_x(x):
 
 def cases():
     empty, thin = part([], job()), part(plate(), job())
-    scratch = ["--reals", str(16 * 6 + 8 * 24 + 2048), "--words", str(8 * 6 + 8 * 24 + 1024)]
+    scratch = ["--reals", str(24 * 6 + 8 * 24 + 2048), "--words", str(12 * 6 + 8 * 24 + 1024)]
     less = lambda i: scratch[:i] + [str(int(scratch[i]) - 1)] + scratch[i + 1 :]
     yield "the plate", thin, [], PLATE
     yield "143 bytes", empty[1:], [], 1

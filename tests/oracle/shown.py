@@ -71,6 +71,13 @@ def two_hollows():
     return part([(1, 0, bottom), (2, 0, other), (1, 1, top), (1, 2, side)], job(process=SLS))
 
 
+def warped():
+    """A square of which one corner is lifted, and a triangle under the corner across: the square's plane lies 0.1 under its box there."""
+    square = [(0.0, 0.0, 0.0), (1.0, 0.0, 0.0), (1.0, 1.0, 0.0), (0.0, 1.0, 1.0)]
+    under = [(0.8, 0.1, -0.6), (0.85, 0.25, -0.6), (0.9, 0.1, -0.6)]
+    return part([(1, 0, square), (1, 1, under)], job())
+
+
 SHOWN = {
     "corner": corner([0.0, 10.0, 20.0], (0.0, 10.0)),
     "sums": corner([0.0, 0.03, 0.08, 0.375], (-1.0, 2.0)),
@@ -80,6 +87,7 @@ SHOWN = {
     "leaning": leaning(),
     "triangle": triangle(),
     "two_hollows": two_hollows(),
+    "warped": warped(),
 }
 
 

@@ -1,44 +1,68 @@
-//! Rays for a body: at random, and at what is hard: vertices, sides and the tolerance beside them, along faces, from a face itself, with zeros of
-//! both signs, and numbers that no caller should pass.
+//! Rays for a body: at random, and at what is hard: vertices, sides and the tolerance beside them, along faces, sides and the bounds of boxes, from a face
+//! itself, through a box beside its polygon, with zeros of both signs, and numbers that no caller should pass.
 use crate::field::ODD;
 use crate::mesh::{Mesh, Point, Polygon};
-use crate::polygon::{centroid, cross, length, minus, plane, plus, times};
+use crate::polygon::{centroid, cross, length, minus, own_box, plane, plus, times};
 use crate::random::Random;
 use crate::shapes::{nudge, pick};
 
 type Ray = [Point; 2];
 
-/// So many rays of six numbers: origin, direction.
-pub fn rays(random: &mut Random, mesh: &Mesh, count: usize) -> Vec<f64> {
+/// What a ray is aimed at.
+pub const KINDS: [&str; 15] = [
+    "anywhere",
+    "at a vertex",
+    "at a side",
+    "beside a side",
+    "along axes",
+    "along a side",
+    "nearly along a face",
+    "from a face",
+    "from a vertex",
+    "of any length",
+    "of odd numbers",
+    "along a face",
+    "along a bound of a box",
+    "at a corner of a box",
+    "through a box beside its polygon",
+];
+
+/// So many rays of six numbers: origin, direction; and the number of each one's kind.
+pub fn rays(random: &mut Random, mesh: &Mesh, count: usize) -> (Vec<f64>, Vec<usize>) {
     let (low, high) = bounds(mesh);
-    (0..count).flat_map(|_| draw(random, mesh, low, high).concat()).collect()
+    let (kinds, rays): (Vec<usize>, Vec<Ray>) = (0..count).map(|_| draw(random, mesh, low, high)).unzip();
+    (rays.concat().concat(), kinds)
 }
 
-fn draw(random: &mut Random, mesh: &Mesh, low: Point, high: Point) -> Ray {
+fn draw(random: &mut Random, mesh: &Mesh, low: Point, high: Point) -> (usize, Ray) {
     let from = [0, 1, 2].map(|k| low[k] - 1.0 + unit(random) * (high[k] - low[k] + 2.0));
     if mesh.polygons.is_empty() {
-        return [from, any(random)];
+        return (0, [from, any(random)]);
     }
     let polygon = &mesh.polygons[random.below(mesh.polygons.len() as u64) as usize];
     let points = &polygon.points;
     let k = random.below(points.len() as u64) as usize;
     let (a, b) = (points[k], points[(k + 1) % points.len()]);
-    match random.below(16) {
-        0 | 1 => [from, any(random)],
-        2 => [from, minus(a, from)],
-        3 => [from, minus(between(a, b, pick(random, &[0.5, 0.25, 0.3])), from)],
-        4 | 5 => [from, minus(beside(random, polygon, a, b), from)],
-        6 | 7 => straight(random, polygon, a),
-        8 => [between(a, b, pick(random, &[-1.0, 0.0, 0.5, 2.0])), minus(b, a)],
-        9 => nearly_along(random, polygon, a, b),
-        10 | 11 => from_face(random, polygon),
-        12 => [a, any(random)],
-        13 => [a, minus(centroid(points), a)],
+    match random.below(24) {
+        0 | 1 => (0, [from, any(random)]),
+        2 => (1, [from, minus(a, from)]),
+        3 => (2, [from, minus(between(a, b, pick(random, &[0.5, 0.25, 0.3])), from)]),
+        4 | 5 => (3, [from, minus(beside(random, polygon, a, b), from)]),
+        6 | 7 => (4, straight(random, polygon, a)),
+        8 => (5, [between(a, b, pick(random, &[-1.0, 0.0, 0.5, 2.0])), minus(b, a)]),
+        9 => (6, nearly_along(random, polygon, a, b)),
+        10 | 11 => (7, from_face(random, polygon)),
+        12 => (8, [a, any(random)]),
+        13 => (8, [a, minus(centroid(points), a)]),
         14 => {
             let by = pick(random, &[1e-12, 1e-11, 1e-6, 1e6, 1e12]);
-            [from, minus(centroid(points), from).map(|c| c * by)]
+            (9, [from, minus(centroid(points), from).map(|c| c * by)])
         }
-        _ => odd(random, from),
+        15 => (10, odd(random, from)),
+        16 | 17 => (11, along_face(random, polygon)),
+        18 | 19 => (12, along_bound(random, polygon, from)),
+        20 => (13, at_corner(random, polygon, from)),
+        _ => (14, through_box(random, polygon, a, b)),
     }
 }
 
@@ -93,6 +117,57 @@ fn nearly_along(random: &mut Random, polygon: &Polygon, a: Point, b: Point) -> R
     let out = pick(random, &[1e-12, 0.9e-12, 1.1e-12, 2e-12, 1e-11, 1e-9]);
     let start = moved(between(a, b, unit(random)), normal, -pick(random, &[0.0, 1e-12, 1e-9]));
     [start, moved(minus(b, a), normal, out)]
+}
+
+/// In the polygon's plane, from beside it, from a vertex or from its middle.
+fn along_face(random: &mut Random, polygon: &Polygon) -> Ray {
+    let points = &polygon.points;
+    let mut corner = || points[random.below(points.len() as u64) as usize];
+    let (a, b, c) = (corner(), corner(), corner());
+    let dir = plus(times(minus(b, a), unit(random)), minus(c, a));
+    let start = pick(random, &[a, centroid(points), between(a, b, 0.5)]);
+    [moved(start, dir, pick(random, &[0.0, 0.0, -1.0, -3.0, 0.5])), dir]
+}
+
+/// With no way along an axis, from a bound of the polygon's box on it or from one f64 beside, to a point of the polygon.
+fn along_bound(random: &mut Random, polygon: &Polygon, from: Point) -> Ray {
+    let (bounds, axis) = (own_box(&polygon.points), random.below(3) as usize);
+    let k = random.below(polygon.points.len() as u64) as usize;
+    let target = pick(random, &[polygon.points[k], centroid(&polygon.points)]);
+    let near = [0; 3].map(|_| unit(random) - 0.5);
+    let mut origin = pick(random, &[from, plus(target, near), plus(target, times(near, 1e-3))]);
+    let bound = pick(random, &bounds)[axis];
+    origin[axis] = nudge(random, bound);
+    let mut dir = minus(target, origin);
+    dir[axis] = pick(random, &[0.0, -0.0]);
+    if random.below(3) == 0 {
+        dir[(axis + 1) % 3] = pick(random, &[0.0, -0.0]);
+        origin[(axis + 1) % 3] = target[(axis + 1) % 3];
+    }
+    [origin, dir]
+}
+
+/// A corner of the polygon's box, or through it from outside or from on a bound.
+fn at_corner(random: &mut Random, polygon: &Polygon, from: Point) -> Ray {
+    let bounds = own_box(&polygon.points);
+    let corner = [0, 1, 2].map(|k| pick(random, &bounds)[k]);
+    let other = [0, 1, 2].map(|k| pick(random, &bounds)[k]);
+    match random.below(3) {
+        0 => [from, minus(corner, from)],
+        1 => [corner, minus(centroid(&polygon.points), corner)],
+        _ => [corner, minus(other, corner)],
+    }
+}
+
+/// Nearly along the polygon, meeting its plane beside a side, about as far as the tolerance of the side test reaches, before its box or past it.
+fn through_box(random: &mut Random, polygon: &Polygon, a: Point, b: Point) -> Ray {
+    let (normal, side) = (normal(polygon), minus(b, a));
+    let (long, outward) = (length(side), cross(side, normal));
+    let off = pick(random, &[0.1, 0.3, 0.6, 0.9, 0.99, 1.01]) * 1e-9 / long;
+    let met = moved(between(a, b, pick(random, &[0.5, 0.25, 0.1])), outward, off / long);
+    let slope = pick(random, &[1e-4, 1e-3, -1e-3, 1e-2, -1e-2, 0.1, 0.5, -0.5]);
+    let inward = moved(times(outward, pick(random, &[-1.0, -1.0, 1.0]) / long), normal, slope);
+    [moved(met, inward, -pick(random, &[0.0, 1e-6, 1e-4, 0.5 * off, 1.0, 1e-3])), inward]
 }
 
 /// From the centroid, inward or outward, from on the face or a little beside it.

@@ -137,9 +137,9 @@ impl Calls {
     }
 }
 
-/// The scratch that document 01's refusal 10 asks for, of u32 and of f64.
+/// The scratch that refusal 10 asks for, of u32 and of f64.
 pub fn scratch(polygons: usize, vertices: usize) -> [usize; 2] {
-    [8 * polygons + 8 * vertices + 1024, 16 * polygons + 8 * vertices + 2048]
+    [12 * polygons + 8 * vertices + 1024, 24 * polygons + 8 * vertices + 2048]
 }
 
 /// Their number stands in the first cell.

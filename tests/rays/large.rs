@@ -1,9 +1,16 @@
 //! Bodies of many polygons, each with a name: for the benchmark, and for the test, which small ones do not show everything to.
+#![allow(dead_code)]
 use crate::mesh::Mesh;
 use crate::shapes::{block, part, ring, squares, triangles};
 use crate::walls::patch;
 
 type Named = (String, Mesh);
+
+/// From 12 polygons, which are scanned, to about 1,000.
+pub fn by_size() -> Vec<Named> {
+    let named = |along: usize, around: usize| (format!("a ring of {} quads", along * around), part(ring(along, around), 16));
+    [(4, 3), (4, 4), (6, 3), (6, 4), (8, 4), (8, 8), (16, 16), (32, 32)].map(|(along, around)| named(along, around)).to_vec()
+}
 
 /// About 4,000 polygons for a ray to be tried with.
 pub fn for_rays() -> Vec<Named> {

@@ -31,6 +31,12 @@ pub fn centroid(v: &[Point]) -> Point {
     times(v.iter().fold([0.0; 3], |s, p| plus(s, *p)), 1.0 / v.len() as f64)
 }
 
+/// Its own box by item 7 of document 02, lowest and highest: the coordinates of its vertices, each moved 1e-6 outward, and 1e-9 more by the slab formula.
+pub fn own_box(v: &[Point]) -> [Point; 2] {
+    let most = |k: usize, f: fn(f64, f64) -> f64| v.iter().fold(v[0][k], |c, p| f(c, p[k]));
+    [[0, 1, 2].map(|k| most(k, f64::min) - 1e-6 - 1e-9), [0, 1, 2].map(|k| most(k, f64::max) + 1e-6 + 1e-9)]
+}
+
 pub fn plus(a: Point, b: Point) -> Point {
     [a[0] + b[0], a[1] + b[1], a[2] + b[2]]
 }

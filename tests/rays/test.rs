@@ -1,5 +1,5 @@
-//! The readings, the hits of rays and whether lines leave a part against the Rust's own, bit by bit, and refusals 1 to 10. Takes generated files from
-//! standard input; with --quick there are fewer of the others.
+//! The readings, the hits of rays and whether lines leave a part against the Rust's scan with the same rule and against the definitions, bit by bit, and
+//! refusals 1 to 10. Takes generated files from standard input; with --quick there are fewer of the others.
 #[path = "../shapes/change.rs"]
 mod change;
 #[path = "../rules/counts.rs"]
@@ -34,6 +34,7 @@ mod compare;
 mod found;
 mod large;
 mod polygon;
+mod trees;
 mod tried;
 mod walls;
 
@@ -48,15 +49,17 @@ const LARGE: usize = 100_000;
 
 fn main() {
     let quick = std::env::args().any(|a| a == "--quick");
-    let (own, rounds) = if quick { (2_000, 1) } else { (60_000, 4) };
+    let (own, trees, rounds) = if quick { (2_000, 4_000, 1) } else { (60_000, 480_000, 4) };
     let own = thread::spawn(move || {
         let mut c = Compare::new(13);
         own_shapes(&mut c, own);
         large_shapes(&mut c, rounds);
+        for_trees(&mut c, 0..trees / 2);
         (c.tally, c.counts)
     });
     let mut c = Compare::new(14);
     from_input(&mut c).expect("a stream of part files");
+    for_trees(&mut c, trees / 2..trees);
     let (tally, counts) = own.join().expect("a test thread failed");
     let (files, different) = (tally.compared + c.tally.compared, tally.different + c.tally.different);
     let counts = counts.and(c.counts);
@@ -89,6 +92,18 @@ fn own_shapes(c: &mut Compare, count: u64) {
         for change in 0..random.below(3) {
             mesh = change::changed(&mut random, &mesh);
             c.check(&mesh.bytes(), || format!("shape {number}, changed {} times", change + 1));
+        }
+    }
+}
+
+/// Parts of 9 to 4,096 polygons, each by its number alone, now and then changed.
+fn for_trees(c: &mut Compare, numbers: std::ops::Range<u64>) {
+    for number in numbers {
+        let mut random = Random(Random(18).next() ^ Random(!number).next());
+        let mesh = trees::draw(&mut random);
+        c.check(&mesh.bytes(), || format!("boxes {number}"));
+        if random.below(8) == 0 {
+            c.check(&change::changed(&mut random, &mesh).bytes(), || format!("boxes {number}, changed"));
         }
     }
 }

@@ -1,15 +1,17 @@
-//! Hits and readings by the words of document 01: each polygon is tried alone. For small bodies.
+//! Hits and readings by the words of document 01, with the rule of own boxes of document 02's item 7: each polygon is tried alone. Readings are for small
+//! bodies.
 use crate::counts::Counts;
 use crate::found::{Found, Hit, Sample};
 use crate::ids;
 use crate::mesh::{Mesh, Point};
-use crate::polygon::{area, centroid, cross, dot, minus, plane, plus, times};
+use crate::polygon::{area, centroid, cross, dot, minus, own_box, plane, plus, times};
 
 const RAYS: f64 = 600.0;
 
 pub struct Tried<'a> {
     mesh: &'a Mesh,
     planes: Vec<(Point, f64)>,
+    boxes: Vec<[Point; 2]>,
     areas: Vec<f64>,
     /// Of each face its polygons, by rising number.
     faces: Vec<Vec<usize>>,
@@ -17,21 +19,65 @@ pub struct Tried<'a> {
     counts: &'a mut Counts,
 }
 
+/// What is left of a ray inside a polygon's own box: where it enters and leaves, and whether an axis was passed for a NaN.
+struct Span {
+    t0: f64,
+    t1: f64,
+    met_nan: bool,
+}
+
+impl Span {
+    fn reaches(&self, t: f64) -> bool {
+        self.t0 <= self.t1 && self.t0 <= t
+    }
+}
+
+/// The smallest t, then the lowest number; and how many are struck at this t.
+fn nearest(struck: &[(usize, f64)]) -> (Hit, usize) {
+    let nearest: Vec<_> = struck.iter().filter(|(_, t)| !struck.iter().any(|(_, s)| s < t)).collect();
+    let lowest = nearest.iter().min_by_key(|(p, _)| *p);
+    (lowest.map(|(p, t)| (*p as u32, t.to_bits())), nearest.len())
+}
+
 impl Tried<'_> {
-    pub fn found(mesh: &Mesh, rays: &[f64], counts: &mut Counts) -> Found {
+    /// With readings or without.
+    pub fn found(mesh: &Mesh, rays: &[f64], readings: bool, counts: &mut Counts) -> Found {
         let polygons = |id: &ids::Id| (0..mesh.polygons.len()).filter(|p| mesh.polygons[*p].face() == *id).collect();
-        let faces = ids::of_faces(mesh).iter().map(polygons).collect();
+        let faces = if readings { ids::of_faces(mesh).iter().map(polygons).collect() } else { Vec::new() };
         let planes = mesh.polygons.iter().map(plane).collect();
+        let boxes = mesh.polygons.iter().map(|p| own_box(&p.points)).collect();
         let areas = mesh.polygons.iter().map(|p| area(&p.points)).collect();
-        let mut tried = Tried { mesh, planes, areas, faces, counts };
-        let samples = tried.readings();
+        let mut tried = Tried { mesh, planes, boxes, areas, faces, counts };
+        let samples = if readings { tried.readings() } else { Vec::new() };
         let rays: Vec<[Point; 2]> = rays.chunks(6).map(|r| [[r[0], r[1], r[2]], [r[3], r[4], r[5]]]).collect();
         let hits = rays.iter().map(|[origin, dir]| tried.hit_of_ray(*origin, *dir)).collect();
         Found { samples, hits, open: rays.iter().map(|[p, dir]| tried.is_open(*p, *dir)).collect() }
     }
 
-    /// t, where the ray strikes polygon p.
+    /// The slab formula over the own box of polygon p, with no hit yet; an axis that meets a NaN moves neither end.
+    fn span(&self, origin: Point, dir: Point, p: usize) -> Span {
+        let [low, high] = self.boxes[p];
+        let mut span = Span { t0: 0.0, t1: f64::INFINITY, met_nan: false };
+        for k in 0..3 {
+            let inverse = 1.0 / dir[k];
+            let ends = [low, high].map(|bound| (bound[k] - origin[k]) * inverse);
+            if ends.iter().any(|t| t.is_nan()) {
+                span.met_nan = true;
+                continue;
+            }
+            span.t0 = span.t0.max(ends[0].min(ends[1]));
+            span.t1 = span.t1.min(ends[0].max(ends[1]));
+        }
+        span
+    }
+
+    /// t, where the ray strikes polygon p: by `raycast`'s test, and through its own box.
     fn strikes(&self, origin: Point, dir: Point, p: usize) -> Option<f64> {
+        self.crosses(origin, dir, p).filter(|t| self.span(origin, dir, p).reaches(*t))
+    }
+
+    /// t, where the ray meets polygon p by `raycast`'s own test.
+    fn crosses(&self, origin: Point, dir: Point, p: usize) -> Option<f64> {
         let (normal, w) = self.planes[p];
         let denom = dot(normal, dir);
         let t = (w - dot(normal, origin)) / denom;
@@ -51,17 +97,32 @@ impl Tried<'_> {
         (0..self.planes.len()).filter_map(|p| Some((p, self.strikes(origin, dir, p)?))).collect()
     }
 
-    /// The smallest t, then the lowest number; and how many are struck at this t.
-    fn hit(&self, origin: Point, dir: Point) -> (Hit, usize) {
-        let struck = self.struck(origin, dir);
-        let nearest: Vec<_> = struck.iter().filter(|(_, t)| !struck.iter().any(|(_, s)| s < t)).collect();
-        let lowest = nearest.iter().min_by_key(|(p, _)| *p);
-        (lowest.map(|(p, t)| (*p as u32, t.to_bits())), nearest.len())
+    fn hit(&self, origin: Point, dir: Point) -> Hit {
+        nearest(&self.struck(origin, dir)).0
     }
 
     fn hit_of_ray(&mut self, origin: Point, dir: Point) -> Hit {
-        let (hit, at_this_t) = self.hit(origin, dir);
-        self.counts.add("several polygons at the smallest t", u64::from(at_this_t > 1));
+        let crossed: Vec<(usize, f64)> = (0..self.planes.len()).filter_map(|p| Some((p, self.crosses(origin, dir, p)?))).collect();
+        let spans: Vec<Span> = crossed.iter().map(|(p, _)| self.span(origin, dir, *p)).collect();
+        let reached = |(k, (_, t)): (usize, &(usize, f64))| spans[k].reaches(*t).then_some(crossed[k]);
+        let struck: Vec<(usize, f64)> = crossed.iter().enumerate().filter_map(reached).collect();
+        let (hit, at_this_t) = nearest(&struck);
+        let of_hit = hit.map(|(p, t)| (self.boxes[p as usize], self.span(origin, dir, p as usize), f64::from_bits(t)));
+        let mut add = |what: &str, is: bool| self.counts.add(what, u64::from(is));
+        add("several polygons at the smallest t", at_this_t > 1);
+        add("several polygons at t of zero", at_this_t > 1 && hit.is_some_and(|(_, t)| f64::from_bits(t) == 0.0));
+        add("several polygons at the smallest t, over 16 in all", at_this_t > 1 && self.planes.len() > 16);
+        add("own boxes change the hit", hit != nearest(&crossed).0);
+        let of_some = |is: &dyn Fn(&Span, f64) -> bool| spans.iter().zip(&crossed).any(|(span, (_, t))| is(span, *t));
+        add("met beside its box", of_some(&|span, _| span.t0 > span.t1));
+        add("met before its box is entered", of_some(&|span, t| span.t0 <= span.t1 && t < span.t0));
+        add("met where its box is entered", of_some(&|span, t| span.t0 <= span.t1 && t == span.t0));
+        add("met past its box", of_some(&|span, t| span.t0 <= span.t1 && t > span.t1));
+        let Some(([low, high], span, t)) = of_hit else { return hit };
+        add("a hit with a NaN axis", span.met_nan);
+        add("a hit past its box", t > span.t1);
+        add("a hit in a flat box", (0..3).any(|k| high[k] - low[k] < 2.1e-6));
+        add("a hit with a zero in the direction", dir.contains(&0.0));
         hit
     }
 
@@ -107,7 +168,7 @@ impl Tried<'_> {
         let (normal, _) = self.planes[p];
         let inward = times(normal, -1.0);
         let point = centroid(&self.mesh.polygons[p].points);
-        let Some((hit, t)) = self.hit(plus(point, times(inward, 1e-6)), inward).0 else {
+        let Some((hit, t)) = self.hit(plus(point, times(inward, 1e-6)), inward) else {
             self.counts.add("a reading's ray that hits nothing", 1);
             return None;
         };

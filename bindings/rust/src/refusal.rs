@@ -76,7 +76,7 @@ impl Refusal {
             BadPolygon => "polygon entry out of the rules, or vertices left after the last run",
             FlatPolygon => "a polygon without a plane: its normal sum is shorter than 1e-14",
             TooManyFaces => "over 1,024 faces",
-            TooLittleScratch => "f64 scratch under 16P + 8V + 2,048 or u32 scratch under 8P + 8V + 1,024",
+            TooLittleScratch => "f64 scratch under 24P + 8V + 2,048 or u32 scratch under 12P + 8V + 1,024",
             TooManyFaults => "more faults than fault rows lent, or over 2,048",
             ReportTooLong => "report longer than its buffer",
             NoDecimal => "decimal text: number not finite, below 0, or 2^60 and more; places over 3; buffer under 24 bytes",

@@ -25,7 +25,7 @@ pub struct Scratch {
 impl Scratch {
     /// Enough for a part of so many vertices and polygons.
     pub const fn for_counts(vertices: usize, polygons: usize) -> Scratch {
-        Scratch { words: 8 * polygons + 8 * vertices + 1024, reals: 16 * polygons + 8 * vertices + 2048 }
+        Scratch { words: 12 * polygons + 8 * vertices + 1024, reals: 24 * polygons + 8 * vertices + 2048 }
     }
 
     /// Enough for this file, by the counts in its trailer; nothing where refusals 1 to 4 turn it back, whatever is lent.
@@ -60,7 +60,7 @@ mod tests {
     #[test]
     fn by_the_counts_of_the_trailer() {
         assert_eq!(Scratch::of(&file(144, 0, 0)), Scratch { words: 1024, reals: 2048 });
-        assert_eq!(Scratch::of(&file(144 + 24 * 24 + 80 * 6, 24, 6)), Scratch { words: 1264, reals: 2336 });
+        assert_eq!(Scratch::of(&file(144 + 24 * 24 + 80 * 6, 24, 6)), Scratch { words: 1288, reals: 2384 });
     }
 
     #[test]

@@ -1,5 +1,5 @@
 // For tests alone: Rust's roundings, casts and choices, the sine table, the roots of many numbers, text at a place of a slice; many rays through a part,
-// and its thickness readings as lists of numbers.
+// its tree of boxes, and its thickness readings as lists of numbers.
 mod cast;
 mod open;
 mod rays;
@@ -7,3 +7,4 @@ mod reals;
 mod roots;
 mod samples;
 mod texts;
+mod tree;

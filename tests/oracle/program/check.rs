@@ -30,7 +30,7 @@ impl Checked {
         let file = part::read(bytes)?;
         let (p, v) = (file.polygons, file.vertices);
         let found = dfm::unmerged(&file.body, file.material.as_ref(), file.process, &file.print);
-        Ok(Checked { reals: 16 * p + 8 * v + 2048, words: 8 * p + 8 * v + 1024, faults: found.findings.len(), text: printed(found) })
+        Ok(Checked { reals: 24 * p + 8 * v + 2048, words: 12 * p + 8 * v + 1024, faults: found.findings.len(), text: printed(found) })
     }
 
     /// The report, or the refusal from 10 to 12.

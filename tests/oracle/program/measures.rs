@@ -2,7 +2,7 @@
 //! order.
 use crate::dfm;
 pub use crate::dfm::seg_distance;
-pub use crate::dfm::{Hit, Sample};
+pub use crate::dfm::{Bvh, Hit, Sample};
 use crate::math::Vec3;
 use crate::solid::{FaceId, Polygon, Solid};
 
