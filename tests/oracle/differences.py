@@ -1,10 +1,10 @@
 #!/usr/bin/env python3
-"""Where the unpatched Rust and the patched one disagree, how often, and by which of the six replacements.
+"""Where the unpatched Rust and the patched one disagree, how often, and by which of the six replacements or by thin lengths, number 8.
 
 usage: tests/oracle/differences.py COUNT [SEED] [--keep DIR]
 
 Runs the generator's files through the patched program once, through the unpatched one and through the one without replacement 1 several times
-(their hash maps are seeded anew in each run), and through each other one that lacks one replacement. A disagreement has replacement K for a
+(their hash maps are seeded anew in each run), and through each other one that lacks one edit. A disagreement has number K for a
 cause where the program without K alone disagrees with the patched one. With --keep the smallest file of each cause is cut down, polygon by
 polygon, as long as the disagreement stays, and written to DIR with both answers.
 """
@@ -28,6 +28,7 @@ CAUSES = {
     4: "sine",
     5: "Not closed",
     6: "order of hollows",
+    8: "thin lengths",
 }
 
 
