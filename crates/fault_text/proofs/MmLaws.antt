@@ -13,7 +13,7 @@ pub places-from : (x : Float) → lt x tenth ≡ false → 2 ≡ mmPlaces x
 unfolding mmPlaces
 places-from x e = rw e
 
--- the writer takes places up to 3, so that of the places nothing hangs
+-- the writer takes up to three places, so with three it takes the same numbers as with two
 pub mm-accepted : (x : Float) → accepted x 2 ≡ true → mmAccepted x ≡ true
 unfolding mmAccepted mmPlaces accepted
 mm-accepted x h = go (lt x tenth)

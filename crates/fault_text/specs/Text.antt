@@ -15,7 +15,7 @@ tenth = ofBits binary64 0x3fb9_9999_9999_999a
 unfoldable pub mmPlaces : Float → ℕ
 mmPlaces x = cond (lt x tenth) 3 2
 
--- dfm.rs's `mm`, patched so
+-- dfm.rs's `mm`, with these places
 unfoldable pub mm : Float → List ℕ
 mm x = decimalText x (mmPlaces x) ++ bytes " mm"
 
