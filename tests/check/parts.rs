@@ -12,7 +12,7 @@ use crate::{
 };
 
 /// As the generator draws it, or as the tests of machining, sheet metal and printing do.
-fn job(random: &mut Random) -> Vec<u8> {
+pub fn job(random: &mut Random) -> Vec<u8> {
     let process = random.below(PROCESSES.len() as u64) as u32;
     let mut job = match random.below(5) {
         0 => machining::job(random),

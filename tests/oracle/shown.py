@@ -9,7 +9,7 @@ import math
 import sys
 
 from differences import framed, run
-from parts import CYLINDER, FDM, SLS, job, part
+from parts import CYLINDER, FDM, SLA, SLS, job, part
 
 RUNS = 40
 
@@ -78,6 +78,16 @@ def warped():
     return part([(1, 0, square), (1, 1, under)], job())
 
 
+def two_layers():
+    """Two roofs over two floors, 0.025 and 0.03 mm thick, of a resin print."""
+    polygons = []
+    for i, thick in enumerate((0.025, 0.03)):
+        x = 9.0 * i
+        polygons.append((1, 2 * i, [(x, 0.0, 0.0), (x + 4.0, 0.0, 0.0), (x, 0.0, 4.0)]))
+        polygons.append((1, 2 * i + 1, [(x, thick, 0.0), (x, thick, 4.0), (x + 4.0, thick, 0.0)]))
+    return part(polygons, job(process=SLA, layer=0.05))
+
+
 SHOWN = {
     "corner": corner([0.0, 10.0, 20.0], (0.0, 10.0)),
     "sums": corner([0.0, 0.03, 0.08, 0.375], (-1.0, 2.0)),
@@ -88,6 +98,7 @@ SHOWN = {
     "triangle": triangle(),
     "two_hollows": two_hollows(),
     "warped": warped(),
+    "two_layers": two_layers(),
 }
 
 

@@ -18,7 +18,7 @@ use Rattle.solid_faces.specs.Faces.{Checked}
 use Rattle.fault_row.specs.declared.row.FaultRow.{FaultRow}
 use Rattle.fault_text.specs.Kind.{thinWall, smallHole, deepHoleMax, deepHoleStandard, tightInsideRadius, deepInsideCorner, sharpInsideCorner, noMaterial, material, notOneThickness, tightBend, shortFlange, sheetSmallHole, holeNearBend, holeNearEdge, thinnerThanALayer, fewLayers, thinnerThanTheNozzle, printThinWall, printSmallHole, overhang, enclosedHollowSla, enclosedHollowSls}
 use Rattle.fault_text.specs.Job.{minWall, nameOr, workName}
-use Rattle.fault_text.specs.Text.{mm}
+use Rattle.fault_text.specs.Text.{mmPlaces, mm}
 use Rattle.fault_text.specs.Machining.{minDrill, minMillRadius, thinWallText, smallHoleText, deepHoleMaxText, deepHoleStandardText, tightInsideRadiusText, deepInsideCornerText, sharpInsideCornerText, machiningText}
 use Rattle.fault_text.specs.Sheet.{sheetName, ratioText, bendNeed, holeTooCloseText, noMaterialText, materialText, notOneThicknessText, tightBendText, shortFlangeText, sheetSmallHoleText, holeNearBendText, holeNearEdgeText, sheetText}
 use Rattle.fault_text.specs.Printing.{labelOf, twoLayers, limitOf, floorText, thinnerThanALayerText, fewLayersText, thinnerThanTheNozzleText, printThinWallText, printSmallHoleText, overhangText, enclosedHollowSlaText, enclosedHollowSlsText, printingText}
@@ -28,7 +28,7 @@ use Rattle.fault_text.proofs.JobLaws.{name-short, ratio-to}
 -- ---- a decimal has at most 23 bytes, a name at most 40
 mm-short : (x : Float) → length (mm x) ≤ 26
 unfolding mm
-mm-short x = simp length-append (omega (arith, decimalText-length x 2))
+mm-short x = simp length-append (omega (arith, decimalText-length x (mmPlaces x)))
 
 name-or-short : (t : Part) (other : List ℕ) → length (t .name) ≤ 40 → length other ≤ 40 → length (nameOr t other) ≤ 40
 unfolding nameOr

@@ -14,6 +14,7 @@ use Rattle.fault_text.specs.Kind.{thinnerThanALayer, fewLayers, thinnerT
 use Rattle.fault_text.specs.Printing.{twoLayers, limitOf, thinnerThanALayerFault, fewLayersFault, thinnerThanTheNozzleFault, printThinWallFault, printSmallHoleFault, overhangFault, enclosedHollowSlaFault, enclosedHollowSlsFault, printingText, printingPrinted}
 use Rattle.fault_text.specs.Many.{overhangFaces, hollowFaces, manyFaces}
 use Rattle.fault_text.specs.Meaning.{textOf, isOfTwo, isOfOne, facesOfRow, faultOf, printedOf}
+use Rattle.fault_text.proofs.MmLaws.{mm-accepted}
 
 module _ (t : Part) where
   -- ---- the faults of rows
@@ -55,23 +56,23 @@ module _ (t : Part) where
   -- ---- the numbers that each kind prints are accepted
   pub thinner-than-a-layer-printed : (f g : ℕ) (x : Float) → accepted x 2 ≡ true → accepted (t .job .print .layer) 2 ≡ true → printedOf t (row thinnerThanALayer 0 1 f g 0 x zero zero) ≡ true
   unfolding printedOf printingPrinted
-  thinner-than-a-layer-printed f g x a b = rw (a, b)
+  thinner-than-a-layer-printed f g x a b = rw (mm-accepted _ a, mm-accepted _ b)
 
   pub few-layers-printed : (f g : ℕ) (x layers : Float) → accepted x 2 ≡ true → accepted layers 1 ≡ true → accepted (t .job .print .layer) 2 ≡ true → accepted (twoLayers (t .job .print .layer)) 2 ≡ true → printedOf t (row fewLayers 1 1 f g 0 x layers zero) ≡ true
   unfolding printedOf printingPrinted
-  few-layers-printed f g x layers a b c d = rw (a, b, c, d)
+  few-layers-printed f g x layers a b c d = rw (mm-accepted _ a, b, mm-accepted _ c, mm-accepted _ d)
 
   pub thinner-than-the-nozzle-printed : (f g : ℕ) (x : Float) → accepted x 2 ≡ true → accepted (t .job .print .nozzle) 2 ≡ true → printedOf t (row thinnerThanTheNozzle 0 1 f g 0 x zero zero) ≡ true
   unfolding printedOf printingPrinted
-  thinner-than-the-nozzle-printed f g x a b = rw (a, b)
+  thinner-than-the-nozzle-printed f g x a b = rw (mm-accepted _ a, mm-accepted _ b)
 
   pub print-thin-wall-printed : (n f g : ℕ) (x : Float) → accepted x 2 ≡ true → accepted (t .job .print .«min_wall») 2 ≡ true → printedOf t (row printThinWall n 1 f g 0 x zero zero) ≡ true
   unfolding printedOf printingPrinted
-  print-thin-wall-printed n f g x a b = rw (a, b)
+  print-thin-wall-printed n f g x a b = rw (mm-accepted _ a, mm-accepted _ b)
 
   pub print-small-hole-printed : (f : ℕ) (d : Float) → accepted d 2 ≡ true → accepted (t .job .print .«min_hole») 2 ≡ true → printedOf t (row printSmallHole 1 1 f 0 0 d zero zero) ≡ true
   unfolding printedOf printingPrinted
-  print-small-hole-printed f d a b = rw (a, b)
+  print-small-hole-printed f d a b = rw (mm-accepted _ a, mm-accepted _ b)
 
   pub overhang-printed : (count : ℕ) (area : Float) → accepted area 1 ≡ true → accepted (limitOf (t .job .print .overhang)) 0 ≡ true → printedOf t (row overhang 1 count 0 0 0 area zero zero) ≡ true
   unfolding printedOf printingPrinted

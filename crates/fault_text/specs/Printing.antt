@@ -18,7 +18,7 @@ use Rattle.fault_row.specs.declared.fault.Rule.the-variants.{EnclosedHollow, Fe
 use Rattle.fault_row.specs.declared.row.FaultRow.{FaultRow}
 use Rattle.fault_row.specs.Fault.{Fault, fault}
 use Rattle.fault_text.specs.Kind.{thinnerThanALayer, fewLayers, thinnerThanTheNozzle, printThinWall, printSmallHole, overhang, enclosedHollowSla, enclosedHollowSls}
-use Rattle.fault_text.specs.Text.{mm}
+use Rattle.fault_text.specs.Text.{mm, mmAccepted}
 
 -- ---- from the job
 -- dfm.rs's `label`
@@ -122,12 +122,12 @@ printingText t row =
 -- the decimal writer takes every number that it prints
 unfoldable pub printingPrinted : Part → FaultRow → Bool
 printingPrinted t row =
-    cond (eqb (row .kind) thinnerThanALayer) (accepted (row .x) 2 && accepted (t .job .print .layer) 2)
+    cond (eqb (row .kind) thinnerThanALayer) (mmAccepted (row .x) && mmAccepted (t .job .print .layer))
     (cond (eqb (row .kind) fewLayers)
-    (accepted (row .x) 2 && accepted (row .y) 1 && accepted (t .job .print .layer) 2 && accepted (twoLayers (t .job .print .layer)) 2)
-    (cond (eqb (row .kind) thinnerThanTheNozzle) (accepted (row .x) 2 && accepted (t .job .print .nozzle) 2)
-    (cond (eqb (row .kind) printThinWall) (accepted (row .x) 2 && accepted (t .job .print .«min_wall») 2)
-    (cond (eqb (row .kind) printSmallHole) (accepted (row .x) 2 && accepted (t .job .print .«min_hole») 2)
+    (mmAccepted (row .x) && accepted (row .y) 1 && mmAccepted (t .job .print .layer) && mmAccepted (twoLayers (t .job .print .layer)))
+    (cond (eqb (row .kind) thinnerThanTheNozzle) (mmAccepted (row .x) && mmAccepted (t .job .print .nozzle))
+    (cond (eqb (row .kind) printThinWall) (mmAccepted (row .x) && mmAccepted (t .job .print .«min_wall»))
+    (cond (eqb (row .kind) printSmallHole) (mmAccepted (row .x) && mmAccepted (t .job .print .«min_hole»))
     (cond (eqb (row .kind) overhang) (accepted (row .x) 1 && accepted (limitOf (t .job .print .overhang)) 0)
     (cond (eqb (row .kind) enclosedHollowSla) (accepted (row .x) 1)
     (cond (eqb (row .kind) enclosedHollowSls) (accepted (row .x) 1) true)))))))
