@@ -21,6 +21,7 @@ import examples
 import shown
 from differences import OUT, frames, framed, run
 from parts import FDM, SHEET, SLA, SLS, bore, box, holed_plate, job, part
+from shown import drill_point
 
 HERE = os.path.dirname(os.path.abspath(__file__))
 CRATES = os.path.join(HERE, "..", "..", "crates")
@@ -56,6 +57,8 @@ def edges():
     for radius in around(0.5):
         yield part(bore(radius, 1.0), job())
         yield part(bore(radius, 1.0)[:20], job())
+    for off in [0.0] + around(1e-6):
+        yield drill_point(off)
     side = 1e-3
     for height in around(1e-3):
         hollow = box((0.0, 0.0, 0.0), (side, side, height), feature=3, inward=True)

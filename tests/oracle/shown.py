@@ -52,6 +52,14 @@ def open_bore(gap, facets=31):
     return part([(1, 0, points, CYLINDER, (0.0, 0.0, 0.0, 0.0, 0.0, 1.0, 1.0))], job())
 
 
+def drill_point(off=0.0):
+    """The same about +y, from which directions are counted, with its tip on the axis in the same polygon, or so far beside it."""
+    gap, facets = 0.395, 30
+    angles = [math.pi / 2 + gap / 2 + (2 * math.pi - gap) * i / facets for i in range(facets + 1)]
+    points = [(math.cos(t), math.sin(t), 9.0 if i == facets // 2 else 0.0) for i, t in enumerate(angles)]
+    return part([(1, 0, points + [(0.0, off, 0.0)], CYLINDER, (0.0, 0.0, 0.0, 0.0, 0.0, 1.0, 1.0))], job())
+
+
 def leaning():
     """A triangle whose lean has a sine of 1e-9 above that of 45 degrees, between what `sin` and the table allow."""
     up = (0.7071067811865475, 0.0, 0.7071067831865475)
@@ -94,6 +102,7 @@ SHOWN = {
     "tie": tie(),
     "short_sides": short_sides(),
     "open_bore": open_bore(0.2 - 2e-7),
+    "drill_point": drill_point(),
     "leaning": leaning(),
     "triangle": triangle(),
     "two_hollows": two_hollows(),
