@@ -26,7 +26,6 @@ use Rattle.report_faces.specs.Named.{Cells}
 use Rattle.report_faces.specs.Ready.{Kept, Ready}
 use Rattle.report_faces.proofs.SearchLaws.{passed-none, next-end, next-hit}
 
-
 -- ---- cells before the links
 pub front-none : (from : ℕ) (l : List ℕ) → Front from l l
 front-none from l = record { same = λ k h. refl; long = refl }
@@ -96,15 +95,18 @@ module _ (labels : List ℕ) (from : ℕ) where
       record {
         linked = λ q a h. absurd (omega (arith, a, h));
         open-at = λ q h. subst (λ (k : ℕ). Next (λ i. eqb (getD labels i 0) q) (length labels) (length labels) k) (sym (each q (omega (arith, h, e, l)) ∙ e))
-        (next-end (λ i. eqb (getD labels i 0) q) (length labels) (length labels) (length labels)
-        (passed-none (λ i. eqb (getD labels i 0) q) (length labels) (length labels) (omega arith)) (omega arith));
+            (next-end (λ i. eqb (getD labels i 0) q) (length labels) (length labels) (length labels)
+            (passed-none (λ i. eqb (getD labels i 0) q) (length labels) (length labels) (omega arith)) (omega arith));
       }
 
   module _ (p : ℕ) (there : p < length labels) (work : List ℕ) (so-far : Linking labels from (p + 1) work) where
     -- polygon p is the lowest of its body
     pub link-own : (b : ℕ) → b ≡ getD labels p 0 → b ≡ p → Linking labels from p work
-    link-own b e d = record { linked = λ q a h. go q a h (lt-or-ge p q); open-at = λ c h. one-before (λ q. eqb (getD labels q 0) c) p (length labels) (getD work (from + c) 0)
-        (so-far .open-at c (omega (arith, h))) (ne-eqb (getD labels p 0) c (λ k. absurd (omega (arith, k, e, d, h)))) }
+    link-own b e d = record {
+      linked = λ q a h. go q a h (lt-or-ge p q);
+      open-at = λ c h. one-before (λ q. eqb (getD labels q 0) c) p (length labels) (getD work (from + c) 0)
+          (so-far .open-at c (omega (arith, h))) (ne-eqb (getD labels p 0) c (λ k. absurd (omega (arith, k, e, d, h))));
+    }
       where
         own : p ≡ getD labels p 0
         own = sym d ∙ e
@@ -187,7 +189,7 @@ module _ (at : Regions) (words : List ℕ) (from : ℕ) (work : List ℕ) (room 
         room = room;
         low = λ on. low;
         linked = λ on p h. subst (LinkedAt (part 0 (at .polygons) words) p)
-        (sym (part-place from (from + at .polygons) work 0 p (omega (arith, h, labels-long (at .polygons) words l)))) (made .linked p (omega arith) h);
+            (sym (part-place from (from + at .polygons) work 0 p (omega (arith, h, labels-long (at .polygons) words l)))) (made .linked p (omega arith) h);
       }
 
 -- ---- what a report starts from

@@ -46,7 +46,6 @@ slice-write-work-2 c = simp length-set (omega (arith, label-low _ (c .before .be
 returns-2 : tie.Need-returns-2
 returns-2 c = (link-other _ _ _ (c .before .before .before .before .before .pre .1 .1 .0) _ (c .before .before .before .before .before .pre .1 .1 .1 .1) (c .before .before .before .before .before .pre .1 .1 .1 .0) _ (c .before .before .cell .ensures) (c .before .if1 .left) (c .before .before .before .before .before .pre .0), front-set _ _ _ _ _ (front-set _ _ _ _ _ (front-none _ _) (omega arith)) (omega arith))
 
-
 pub link-spec : {M : Type 1} → statement M
 link-spec =
     tie.close

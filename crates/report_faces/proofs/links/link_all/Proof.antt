@@ -38,7 +38,6 @@ same-length c = c .before .loop .inv .1 .long ∙ c .before .before .before .bef
 returns : tie.Need-returns Inv-loop μ-loop
 returns c = (linking-at _ _ _ _ _ (omega (arith, c .loop-test .left)) (c .before .loop .inv .2), front-then _ _ _ _ (c .before .before .before .before .open-links .ensures .1) (c .before .loop .inv .1))
 
-
 pub link-all-spec : {M : Type 1} → statement M
 link-all-spec =
     tie.close

@@ -43,7 +43,6 @@ same-length c = c .before .loop .inv .1 .long
 returns : tie.Need-returns Inv-loop μ-loop
 returns c = (all-open _ _ _ _ (c .before .loop .b) (omega arith) (omega (arith, c .loop-test .left)) (c .before .loop .inv .2), c .before .loop .inv .1)
 
-
 pub open-links-spec : {M : Type 1} → statement M
 open-links-spec =
     tie.close

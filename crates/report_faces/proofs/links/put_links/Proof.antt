@@ -32,7 +32,6 @@ same-length c = c .before .before .link-all .ensures .1 .long
 returns-2 : tie.Need-returns-2
 returns-2 c = (links-made (c .before .before .before .before .before .before .before .before .before .args .at) (c .before .before .before .before .before .before .before .before .before .args .words .now) (c .before .before .before .before .before .before .before .before .before .args .from) (c .before .before .link-all .last .0) (omega (arith, c .before .before .before .before .before .before .before .before .before .pre .1 .1 .0, c .before .before .link-all .ensures .1 .long)) (omega (arith, c .before .before .before .before .before .before .before .before .before .pre .0, c .before .before .before .before .before .before .before .before .before .pre .1 .0)) (c .before .before .before .before .before .before .before .before .before .pre .1 .1 .1 (not-false _ (c .before .before .before .before .before .if1 .left))) (c .before .before .link-all .ensures .0), c .before .before .link-all .ensures .1)
 
-
 pub put-links-spec : {M : Type 1} → statement M
 put-links-spec =
     tie.close
