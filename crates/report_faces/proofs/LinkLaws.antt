@@ -14,28 +14,17 @@ use borrow.Author.Tests.{eqb-true, eq-eqb, ne-eqb}
 use Rattle.num_float.proofs.Tests.{contrary, lt-or-ge}
 use Rattle.list_laws.specs.Region.{part}
 use Rattle.list_laws.proofs.Regions.{part-length, part-place}
-use Rattle.file_part.specs.Part.{Part, partOf}
+use Rattle.file_part.specs.Part.{partOf}
 use Rattle.solid_bodies.proofs.BodyLaws.{body-low}
 use Rattle.scratch.specs.declared.regions.Regions.{Regions}
 use Rattle.scratch.proofs.StandingLaws.{placed-polygons}
-use Rattle.fault_merge.specs.Merged.{Merged, Hashes}
+use Rattle.fault_merge.specs.Work.{Front}
 use Rattle.report_faces.specs.declared.marks.Listing.{Listing}
 use Rattle.report_faces.specs.Search.{Passed, Next}
-use Rattle.report_faces.specs.Links.{Low, LinkedAt, Linked, Linking, Front, Links}
+use Rattle.report_faces.specs.Links.{Low, LinkedAt, Linked, Linking, Links}
 use Rattle.report_faces.specs.Named.{Cells}
-use Rattle.report_faces.specs.Ready.{Kept, Ready}
+use Rattle.report_faces.specs.Ready.{Kept}
 use Rattle.report_faces.proofs.SearchLaws.{passed-none, next-end, next-hit}
-
--- ---- cells before the links
-pub front-none : (from : ℕ) (l : List ℕ) → Front from l l
-front-none from l = record { same = λ k h. refl; long = refl }
-
-pub front-then : (from : ℕ) (a b c : List ℕ) → Front from a b → Front from b c → Front from a c
-front-then from a b c x y = record { same = λ k h. y .same k h ∙ x .same k h; long = y .long ∙ x .long }
-
-pub front-set : (from k v : ℕ) (a b : List ℕ) → Front from a b → from ≤ k → Front from a (set b k v)
-front-set from k v a b x l =
-    record { same = λ i h. getD-set-other b k i v 0 (λ e. absurd (omega (arith, e, h, l))) ∙ x .same i h; long = length-set b k v ∙ x .long }
 
 pub label-low : (labels : List ℕ) → Low labels → (p : ℕ) → p < length labels → getD labels p 0 ≤ p
 unfolding Low
@@ -201,13 +190,3 @@ kept-low s words given cells numbers kept on p h =
     let same : getD (part 0 (given .at .polygons) words) p 0 ≡ getD words p 0 = part-place 0 (given .at .polygons) words 0 p (omega (arith, h, n)) ∙ ap (λ (k : ℕ). getD words k 0) (zero-add p) in
     let body = kept .body .labels on .each p (omega (arith, h, n, placed-polygons s (given .at) (kept .placed))) in
     omega (arith, same, body, body-low (partOf s) p)
-
-pub merged-front : (t : Part) (cells : List ℕ) (numbers : List Float) (old new : List ℕ) (n : ℕ) → Merged t cells numbers old n → Front (4 * n) old new → Merged t cells numbers new n
-unfolding Hashes
-merged-front t cells numbers old new n m f =
-    record {
-      hashes = λ j h. f .same (4 * j) (omega (arith, h)) ∙ m .hashes j h;
-      leads = λ j h. f .same (4 * j + 1) (omega (arith, h)) ∙ m .leads j h;
-      totals = λ j h e. f .same (4 * j + 2) (omega (arith, h)) ∙ m .totals j h e;
-      members = λ j h e. f .same (4 * j + 3) (omega (arith, h)) ∙ m .members j h e;
-    }

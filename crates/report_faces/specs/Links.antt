@@ -26,11 +26,6 @@ pub record Linking (labels : List ℕ) (from p : ℕ) (work : List ℕ) : Type 0
   pub linked : (q : ℕ) → p ≤ q → q < length labels → LinkedAt labels q (getD work (from + q) 0)
   pub open-at : (b : ℕ) → b < p → Next (λ q. eqb (getD labels q 0) b) p (length labels) (getD work (from + b) 0)
 
--- the cells before `from` are as they were
-pub record Front (from : ℕ) (old new : List ℕ) : Type 0 where
-  pub same : (k : ℕ) → k < from → getD new k 0 ≡ getD old k 0
-  pub long : length new ≡ length old
-
 -- ---- the links of a part stand from `from` on
 pub record Links (at : Regions) (words : List ℕ) (from : ℕ) (work : List ℕ) : Type 0 where
   pub room : from + at .polygons ≤ length work

@@ -6,7 +6,8 @@ ghost use Prim.Native.Nat.{_+_, _≤_, _<_};
 ghost use lib.ListN.{length};
 ghost use Rattle.list_laws.specs.Region.{part};
 ghost use Rattle.scratch.specs.Regions.{Laid};
-ghost use Rattle.report_faces.specs.Links.{Low, Linking, Front, Links};
+ghost use Rattle.fault_merge.specs.Work.{Front};
+ghost use Rattle.report_faces.specs.Links.{Low, Linking, Links};
 use list_cells::cell;
 use scratch::regions::Regions;
 

@@ -1,7 +1,8 @@
 -- `report::report::write_with` meets its contract: measured, then written.
 use borrow.Author.Needs.{needs}
 use mathlib.Core.Path.{_∙_}
-use Rattle.report_faces.proofs.LinkLaws.{kept-low, merged-front}
+use Rattle.fault_merge.proofs.RecallLaws.{merged-front}
+use Rattle.report_faces.proofs.LinkLaws.{kept-low}
 use Rattle.report.proofs.ReportLaws.{reported-long, reported-fits}
 use native.Mathlib.Omega.{arith}
 use Rattle.report.proofs.report.write_with.Statement.{statement}
@@ -17,7 +18,7 @@ put-links-requires : tie.Need-put-links-requires
 put-links-requires c κs = (c .before .before .before .before .before .before .before .before .before .before .before .before .pre .0 .placed .laid, (c .before .before .before .before .before .before .before .before .before .before .before .before .pre .0 .room, (omega (arith, c .before .before .before .before .before .before .before .before .before .before .before .before .pre .1, c .before .before .before .before .merge .ensures .1), kept-low _ _ _ _ _ (c .before .before .before .before .before .before .before .before .before .before .before .before .pre .0))))
 
 put-report-requires : tie.Need-put-report-requires
-put-report-requires c κs = record { kept = c .before .before .before .before .before .before .before .before .before .before .before .before .before .before .before .before .before .pre .0; long = omega (arith, c .before .before .before .before .before .before .before .before .before .before .before .before .before .before .before .before .before .pre .1, c .before .before .before .before .before .before .before .before .before .merge .ensures .1, c .before .before .before .before .put-links .ensures .1 .long); merged = merged-front _ _ _ _ _ _ (c .before .before .before .before .before .before .before .before .before .merge .ensures .0) (c .before .before .before .before .put-links .ensures .1); links = c .before .before .before .before .put-links .ensures .0 }
+put-report-requires c κs = record { kept = c .before .before .before .before .before .before .before .before .before .before .before .before .before .before .before .before .before .pre .0; long = omega (arith, c .before .before .before .before .before .before .before .before .before .before .before .before .before .before .before .before .before .pre .1, c .before .before .before .before .before .before .before .before .before .merge .ensures .1, c .before .before .before .before .put-links .ensures .1 .long); merged = merged-front _ _ _ _ _ _ _ (omega arith) (c .before .before .before .before .before .before .before .before .before .merge .ensures .0) (c .before .before .before .before .put-links .ensures .1); links = c .before .before .before .before .put-links .ensures .0 }
 
 same-length : tie.Need-same-length
 same-length c = c .before .before .before .before .before .before .before .put-links .ensures .1 .long ∙ c .before .before .before .before .before .before .before .before .before .before .before .before .merge .ensures .1
@@ -26,7 +27,7 @@ returns : tie.Need-returns
 returns c = reported-long _ _ _ _ (c .before .before .put-report .ensures) _ (c .if1 .taken)
 
 put-report-requires-2 : tie.Need-put-report-requires-2
-put-report-requires-2 c κs = record { kept = c .before .before .before .before .before .before .before .before .before .before .before .before .before .before .before .before .before .before .before .before .before .before .pre .0; long = omega (arith, c .before .before .before .before .before .before .before .before .before .before .before .before .before .before .before .before .before .before .before .before .before .before .pre .1, c .before .before .before .before .before .before .before .before .before .before .before .before .before .before .merge .ensures .1, c .before .before .before .before .before .before .before .before .before .put-links .ensures .1 .long); merged = merged-front _ _ _ _ _ _ (c .before .before .before .before .before .before .before .before .before .before .before .before .before .before .merge .ensures .0) (c .before .before .before .before .before .before .before .before .before .put-links .ensures .1); links = c .before .before .before .before .before .before .before .before .before .put-links .ensures .0 }
+put-report-requires-2 c κs = record { kept = c .before .before .before .before .before .before .before .before .before .before .before .before .before .before .before .before .before .before .before .before .before .before .pre .0; long = omega (arith, c .before .before .before .before .before .before .before .before .before .before .before .before .before .before .before .before .before .before .before .before .before .before .pre .1, c .before .before .before .before .before .before .before .before .before .before .before .before .before .before .merge .ensures .1, c .before .before .before .before .before .before .before .before .before .put-links .ensures .1 .long); merged = merged-front _ _ _ _ _ _ _ (omega arith) (c .before .before .before .before .before .before .before .before .before .before .before .before .before .before .merge .ensures .0) (c .before .before .before .before .before .before .before .before .before .put-links .ensures .1); links = c .before .before .before .before .before .before .before .before .before .put-links .ensures .0 }
 
 same-length-2 : tie.Need-same-length-2
 same-length-2 c = c .before .before .before .before .before .before .before .before .before .before .before .before .put-links .ensures .1 .long ∙ c .before .before .before .before .before .before .before .before .before .before .before .before .before .before .before .before .before .merge .ensures .1

@@ -3,7 +3,8 @@ use borrow.Author.Needs.{needs}
 use native.Mathlib.Omega.{arith}
 use lib.ListN.{length-set}
 use Rattle.report_faces.specs.Links.{Low}
-use Rattle.report_faces.proofs.LinkLaws.{front-none, front-set, link-own, link-other, label-low}
+use Rattle.fault_merge.proofs.RecallLaws.{front-none, front-set}
+use Rattle.report_faces.proofs.LinkLaws.{link-own, link-other, label-low}
 use Rattle.report_faces.proofs.links.link.Statement.{statement}
 use Rattle.report_faces.proofs.links.link.Tie as tie
 

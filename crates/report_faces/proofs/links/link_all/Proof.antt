@@ -3,8 +3,10 @@ use mathlib.Core.Path.{_≡_, _∙_}
 use Prim.Native.Nat.{_+_, _-_, _≤_, _<_}
 use native.Mathlib.Omega.{arith}
 use lib.ListN.{length}
-use Rattle.report_faces.specs.Links.{Linking, Front}
-use Rattle.report_faces.proofs.LinkLaws.{front-none, front-then, linking-at}
+use Rattle.fault_merge.specs.Work.{Front}
+use Rattle.report_faces.specs.Links.{Linking}
+use Rattle.fault_merge.proofs.RecallLaws.{front-none, front-then}
+use Rattle.report_faces.proofs.LinkLaws.{linking-at}
 use Rattle.report_faces.proofs.links.link_all.Statement.{statement}
 use Rattle.report_faces.proofs.links.link_all.Tie as tie
 

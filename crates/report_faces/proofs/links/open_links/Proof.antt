@@ -5,8 +5,9 @@ use mathlib.Core.Logic.{_⊎_, inl, inr}
 use Prim.Native.Nat.{ℕ, _+_, _-_, _≤_, _<_}
 use native.Mathlib.Omega.{arith}
 use lib.ListN.{length, getD}
-use Rattle.report_faces.specs.Links.{Front}
-use Rattle.report_faces.proofs.LinkLaws.{front-none, front-set, open-more, all-open}
+use Rattle.fault_merge.specs.Work.{Front}
+use Rattle.fault_merge.proofs.RecallLaws.{front-none, front-set}
+use Rattle.report_faces.proofs.LinkLaws.{open-more, all-open}
 use Rattle.report_faces.proofs.links.open_links.Statement.{statement}
 use Rattle.report_faces.proofs.links.open_links.Tie as tie
 

@@ -2,7 +2,8 @@
 use mathlib.Core.Path.{_∙_}
 use borrow.Author.Tests.{not-true, not-false}
 use native.Mathlib.Omega.{arith}
-use Rattle.report_faces.proofs.LinkLaws.{front-none, links-none, links-made, labels-long}
+use Rattle.fault_merge.proofs.RecallLaws.{front-none}
+use Rattle.report_faces.proofs.LinkLaws.{links-none, links-made, labels-long}
 use Rattle.report_faces.proofs.links.put_links.Statement.{statement}
 use Rattle.report_faces.proofs.links.put_links.Tie as tie
 
