@@ -1,5 +1,4 @@
 // The whole report.
-ghost use mathlib.Core.Path.{_≡_};
 ghost use Prim.Native.Nat.{_+_, _*_, _≤_};
 ghost use lib.ListN.{length};
 ghost use Rattle.num_text.specs.Put.{Put};
