@@ -6,10 +6,10 @@ use mathlib.Core.List.{List, [], _∷_}
 use Prim.Native.Nat.{ℕ, suc, _+_, _*_, _^_, _≤_, _<_}
 use native.Mathlib.Omega.{arith}
 use borrow.Author.Tests.{eq-eqb, ne-eqb, eqb-true}
-use lib.Dec.{eqb}
+use lib.Dec.{T, eqb, le→leb}
 use lib.IntN.{pos}
 use lib.ListN.{length, getD}
-use lib.Ieee.{Float, binary64, ofInt}
+use lib.Ieee.{Float, binary64, ofInt, inFloat}
 use Rattle.num_float.proofs.Tests.{same-test, and-true, and-left, and-right, refuted, lt-or-ge}
 use Rattle.math.specs.Vector.{zero}
 use Rattle.list_laws.specs.Below.{countBelow}
@@ -105,6 +105,10 @@ module _ (s : List ℕ) (at : Regions) {words : List ℕ} {reals : List Float} (
       sym (part-place (at .sides) (at .items) words 0 (u * 3 + 2) (omega (arith, low, stands .placed .laid)))
       ∙ stands .the-words .sides on .pairs u there
 
+  -- both are numbers of 32 bits
+  pub keys-fit : {k : ℕ} → k ≡ countBelow u (isOpen (partOf s)) → (u < 4294967296) × (k < 4294967296)
+  keys-fit e = (omega (arith, pair-small), omega (arith, pair-small, e, count-le u (isOpen (partOf s))))
+
   -- so many up to u, and then up to the next
   pub keys-next : at .segments ≡ true → {pair k r : ℕ} → pair ≡ getD words (at .sides + (u * 3 + 2)) 0 → k ≡ countBelow u (isOpen (partOf s)) →
       r ≡ cond (eqb pair (u + 1)) (k + 1) k → r ≡ countBelow (u + 1) (isOpen (partOf s))
@@ -125,6 +129,11 @@ pub keys-end : (s : List ℕ) (at : Regions) {words : List ℕ} {reals : List Fl
     k ≡ countBelow u (isOpen (partOf s)) → k ≡ openKeys (partOf s)
 unfolding openKeys
 keys-end s at h eu ek = ek ∙ ap (λ (n : ℕ). countBelow n (isOpen (partOf s))) (eu ∙ placed-vertices s at (h .placed))
+
+-- as an f64 it is the number
+pub keys-cast : (n : ℕ) → n ≤ 16384 → T (inFloat binary64 (pos n))
+unfolding inFloat
+keys-cast n h = le→leb n (2 ^ 53) (omega (arith, h))
 
 -- ---- one row or none
 module _ (n : ℕ) where

@@ -6,40 +6,40 @@ use Rattle.rule_printing.proofs.printing.printing.Statement.{statement}
 use Rattle.rule_printing.proofs.printing.printing.Tie as tie
 
 upright-of-requires : tie.Need-upright-of-requires
-upright-of-requires c κs = @pre .0 .placed .checked
+upright-of-requires c κs = c .before .before .before .before .before .pre .0 .placed .checked
 
 put-not-closed-requires : tie.Need-put-not-closed-requires
-put-not-closed-requires c κs = (@pre .0, (@pre .1 .1 .1 .0, omega (arith, @pre .1 .0, @pre .1 .1 .0)))
+put-not-closed-requires c κs = (c .before .before .before .before .before .before .before .before .before .before .before .pre .0, (c .before .before .before .before .before .before .before .before .before .before .before .pre .1 .1 .1 .0, omega (arith, c .before .before .before .before .before .before .before .before .before .before .before .pre .1 .0, c .before .before .before .before .before .before .before .before .before .before .before .pre .1 .1 .0)))
 
 wall-rule-requires : tie.Need-wall-rule-requires
-wall-rule-requires c κs = (@pre .0, (@pre .1 .0, @put-not-closed .ensures .1))
+wall-rule-requires c κs = (c .before .before .before .before .before .before .before .before .before .before .before .before .before .before .before .before .before .before .before .before .pre .0, (c .before .before .before .before .before .before .before .before .before .before .before .before .before .before .before .before .before .before .before .before .pre .1 .0, c .before .before .before .before .before .before .before .before .put-not-closed .ensures .1))
 
 hole-rule-requires : tie.Need-hole-rule-requires
-hole-rule-requires c κs = (@wall-rule .ensures .ready, (@pre .1 .0, omega (arith, @put-not-closed .ensures .1, @wall-rule .ensures .few)))
+hole-rule-requires c κs = (c .before .before .before .before .before .before .before .before .before .before .before .before .wall-rule .ensures .ready, (c .before .before .before .before .before .before .before .before .before .before .before .before .before .before .before .before .before .before .before .before .before .before .before .before .before .before .before .before .before .before .before .before .before .pre .1 .0, omega (arith, c .before .before .before .before .before .before .before .before .before .before .before .before .before .before .before .before .before .before .before .before .before .put-not-closed .ensures .1, c .before .before .before .before .before .before .before .before .before .before .before .before .wall-rule .ensures .few)))
 
 overhang-rule-requires : tie.Need-overhang-rule-requires
-overhang-rule-requires c κs = (@hole-rule .ensures .0 .ready, (@hole-rule .ensures .1, (@pre .1 .0, (@pre .1 .1 .0, (omega (arith, @put-not-closed .ensures .1, @wall-rule .ensures .few, @hole-rule .ensures .0 .few), @upright-of .ensures)))))
+overhang-rule-requires c κs = (c .before .before .before .before .before .before .before .before .before .before .before .before .hole-rule .ensures .0 .ready, (c .before .before .before .before .before .before .before .before .before .before .before .before .hole-rule .ensures .1, (c .before .before .before .before .before .before .before .before .before .before .before .before .before .before .before .before .before .before .before .before .before .before .before .before .before .before .before .before .before .before .before .before .before .before .before .before .before .before .before .before .before .before .before .before .before .before .pre .1 .0, (c .before .before .before .before .before .before .before .before .before .before .before .before .before .before .before .before .before .before .before .before .before .before .before .before .before .before .before .before .before .before .before .before .before .before .before .before .before .before .before .before .before .before .before .before .before .before .pre .1 .1 .0, (omega (arith, c .before .before .before .before .before .before .before .before .before .before .before .before .before .before .before .before .before .before .before .before .before .before .before .before .before .before .before .before .before .before .before .before .before .before .put-not-closed .ensures .1, c .before .before .before .before .before .before .before .before .before .before .before .before .before .before .before .before .before .before .before .before .before .before .before .before .before .wall-rule .ensures .few, c .before .before .before .before .before .before .before .before .before .before .before .before .hole-rule .ensures .0 .few), c .before .before .before .before .before .before .before .before .before .before .before .before .before .before .before .before .before .before .before .before .before .before .before .before .before .before .before .before .before .before .before .before .before .before .before .before .before .before .before .before .upright-of .ensures)))))
 
 hollow-rule-requires : tie.Need-hollow-rule-requires
-hollow-rule-requires c κs = (@overhang-rule .ensures .0 .ready .standing, (omega (arith, @put-not-closed .ensures .1, @wall-rule .ensures .few, @hole-rule .ensures .0 .few, @overhang-rule .ensures .0 .few), @pre .1 .1 .1 .1))
+hollow-rule-requires c κs = (c .before .before .before .before .before .before .before .before .before .before .before .before .overhang-rule .ensures .0 .ready .standing, (omega (arith, c .before .before .before .before .before .before .before .before .before .before .before .before .before .before .before .before .before .before .before .before .before .before .before .before .before .before .before .before .before .before .before .before .before .before .before .before .before .before .before .before .before .before .before .before .before .before .before .put-not-closed .ensures .1, c .before .before .before .before .before .before .before .before .before .before .before .before .before .before .before .before .before .before .before .before .before .before .before .before .before .before .before .before .before .before .before .before .before .before .before .before .before .before .wall-rule .ensures .few, c .before .before .before .before .before .before .before .before .before .before .before .before .before .before .before .before .before .before .before .before .before .before .before .before .before .hole-rule .ensures .0 .few, c .before .before .before .before .before .before .before .before .before .before .before .before .overhang-rule .ensures .0 .few), c .before .before .before .before .before .before .before .before .before .before .before .before .before .before .before .before .before .before .before .before .before .before .before .before .before .before .before .before .before .before .before .before .before .before .before .before .before .before .before .before .before .before .before .before .before .before .before .before .before .before .before .before .before .before .before .before .before .before .before .pre .1 .1 .1 .1))
 
 print-requires : tie.Need-print-requires
 print-requires c κs = search needs
 
 same-length : tie.Need-same-length
-same-length c = words-all _ _ (@wall-rule .ensures) (@hole-rule .ensures .0) (@overhang-rule .ensures .0) .long
+same-length c = words-all _ _ (c .before .before .before .before .before .before .before .before .before .before .before .before .before .before .before .before .before .before .before .before .before .before .before .before .before .before .before .before .before .before .before .before .before .before .before .before .before .before .before .before .before .before .before .before .before .wall-rule .ensures) (c .before .before .before .before .before .before .before .before .before .before .before .before .before .before .before .before .before .before .before .before .before .before .before .before .before .before .before .before .before .before .before .before .hole-rule .ensures .0) (c .before .before .before .before .before .before .before .before .before .before .before .before .before .before .before .before .before .before .before .overhang-rule .ensures .0) .long
 
 same-length-2 : tie.Need-same-length-2
-same-length-2 c = reals-all _ _ (@wall-rule .ensures) (@hole-rule .ensures .0) (@overhang-rule .ensures .0) .long
+same-length-2 c = reals-all _ _ (c .before .before .before .before .before .before .before .before .before .before .before .before .before .before .before .before .before .before .before .before .before .before .before .before .before .before .before .before .before .before .before .before .before .before .before .before .before .before .before .before .before .before .before .before .before .wall-rule .ensures) (c .before .before .before .before .before .before .before .before .before .before .before .before .before .before .before .before .before .before .before .before .before .before .before .before .before .before .before .before .before .before .before .before .hole-rule .ensures .0) (c .before .before .before .before .before .before .before .before .before .before .before .before .before .before .before .before .before .before .before .overhang-rule .ensures .0) .long
 
 same-length-3 : tie.Need-same-length-3
-same-length-3 c = cells-all _ _ (@wall-rule .ensures) (@hole-rule .ensures .0) (@overhang-rule .ensures .0) (@put-not-closed .ensures .0) (@hollow-rule .ensures .0)
+same-length-3 c = cells-all _ _ (c .before .before .before .before .before .before .before .before .before .before .before .before .before .before .before .before .before .before .before .before .before .before .before .before .before .before .before .before .before .before .before .before .before .before .before .before .before .before .before .before .before .before .before .before .before .wall-rule .ensures) (c .before .before .before .before .before .before .before .before .before .before .before .before .before .before .before .before .before .before .before .before .before .before .before .before .before .before .before .before .before .before .before .before .hole-rule .ensures .0) (c .before .before .before .before .before .before .before .before .before .before .before .before .before .before .before .before .before .before .before .overhang-rule .ensures .0) (c .before .before .before .before .before .before .before .before .before .before .before .before .before .before .before .before .before .before .before .before .before .before .before .before .before .before .before .before .before .before .before .before .before .before .before .before .before .before .before .before .before .before .before .before .before .before .before .before .before .before .before .before .before .before .put-not-closed .ensures .0) (c .before .before .before .before .before .before .hollow-rule .ensures .0)
 
 same-length-4 : tie.Need-same-length-4
-same-length-4 c = numbers-all _ _ (@wall-rule .ensures) (@hole-rule .ensures .0) (@overhang-rule .ensures .0) (@put-not-closed .ensures .0) (@hollow-rule .ensures .0)
+same-length-4 c = numbers-all _ _ (c .before .before .before .before .before .before .before .before .before .before .before .before .before .before .before .before .before .before .before .before .before .before .before .before .before .before .before .before .before .before .before .before .before .before .before .before .before .before .before .before .before .before .before .before .before .wall-rule .ensures) (c .before .before .before .before .before .before .before .before .before .before .before .before .before .before .before .before .before .before .before .before .before .before .before .before .before .before .before .before .before .before .before .before .hole-rule .ensures .0) (c .before .before .before .before .before .before .before .before .before .before .before .before .before .before .before .before .before .before .before .overhang-rule .ensures .0) (c .before .before .before .before .before .before .before .before .before .before .before .before .before .before .before .before .before .before .before .before .before .before .before .before .before .before .before .before .before .before .before .before .before .before .before .before .before .before .before .before .before .before .before .before .before .before .before .before .before .before .before .before .before .before .put-not-closed .ensures .0) (c .before .before .before .before .before .before .hollow-rule .ensures .0)
 
 returns : tie.Need-returns
-returns c = printing-put _ _ (@wall-rule .ensures) (@hole-rule .ensures .0) (@overhang-rule .ensures .0) (@put-not-closed .ensures .0) (@hollow-rule .ensures .0) (@put-not-closed .ensures .1) _ (@upright-of .ensures) (@hollow-rule .ensures .1) (@overhang-rule .ensures .1) _ (@print .ensures)
+returns c = printing-put _ _ (c .before .before .before .before .before .before .before .before .before .before .before .before .before .before .before .before .before .before .before .before .before .before .before .before .before .before .before .before .before .before .before .before .before .before .before .before .before .before .before .before .before .before .before .before .before .wall-rule .ensures) (c .before .before .before .before .before .before .before .before .before .before .before .before .before .before .before .before .before .before .before .before .before .before .before .before .before .before .before .before .before .before .before .before .hole-rule .ensures .0) (c .before .before .before .before .before .before .before .before .before .before .before .before .before .before .before .before .before .before .before .overhang-rule .ensures .0) (c .before .before .before .before .before .before .before .before .before .before .before .before .before .before .before .before .before .before .before .before .before .before .before .before .before .before .before .before .before .before .before .before .before .before .before .before .before .before .before .before .before .before .before .before .before .before .before .before .before .before .before .before .before .before .put-not-closed .ensures .0) (c .before .before .before .before .before .before .hollow-rule .ensures .0) (c .before .before .before .before .before .before .before .before .before .before .before .before .before .before .before .before .before .before .before .before .before .before .before .before .before .before .before .before .before .before .before .before .before .before .before .before .before .before .before .before .before .before .before .before .before .before .before .before .before .before .before .before .before .before .put-not-closed .ensures .1) _ (c .before .before .before .before .before .before .before .before .before .before .before .before .before .before .before .before .before .before .before .before .before .before .before .before .before .before .before .before .before .before .before .before .before .before .before .before .before .before .before .before .before .before .before .before .before .before .before .before .before .before .before .before .before .before .before .before .before .before .before .before .upright-of .ensures) (c .before .before .before .before .before .before .hollow-rule .ensures .1) (c .before .before .before .before .before .before .before .before .before .before .before .before .before .before .before .before .before .before .before .overhang-rule .ensures .1) _ (c .print .ensures)
 
 pub printing-spec : {M : Type 1} → statement M
 printing-spec =
