@@ -66,8 +66,29 @@ def leaning():
     return part([(1, 0, [(0.0, 0.0, 0.0), (0.0, 9.0, 0.0), (9.0, 0.0, 0.0)])], job(process=FDM, flags=4, tenths=450, up=up))
 
 
-def triangle():
-    return part([(1, 0, [(0.0, 0.0, 0.0), (0.0, 9.0, 0.0), (9.0, 0.0, 0.0)])], job(process=FDM))
+def tetrahedron(move=(0.0, 0.0, 0.0), flipped=False):
+    """Closed, but for one corner of its last triangle, which is moved, or for that triangle's turn, which is the other one."""
+    a, b, c, d = (0.0, 0.0, 0.0), (9.0, 0.0, 0.0), (0.0, 9.0, 0.0), (0.0, 0.0, 9.0)
+    last = [b, c, tuple(x + y for x, y in zip(d, move))]
+    return part([(1, 0, [a, c, b]), (1, 1, [a, b, d]), (1, 2, [a, d, c]), (1, 3, last[::-1] if flipped else last)], job(process=FDM, layer=0.001))
+
+
+def thrice():
+    """One triangle three times: each of its keys has three sides."""
+    corners = [(0.0, 0.0, 0.0), (0.0, 9.0, 0.0), (9.0, 0.0, 0.0)]
+    return part([(1, i, corners) for i in range(3)], job(process=FDM))
+
+
+def short_side():
+    """A side of 0.00003 mm, whose two ends have one key of 1e4 and two of 1e5."""
+    return part([(1, 0, [(0.0, 0.0, 0.0), (0.0, 9.0, 0.0), (9.0, 0.0, 0.0), (0.00003, 0.0, 0.0)])], job(process=FDM))
+
+
+def between_keys():
+    """Two corners 0.000002 mm apart that have one key of 1e5, with a border of keys of 1e4 between them."""
+    a, b, c, d = (0.0, 0.0, 0.000049), (9.0, 0.0, 0.0), (0.0, 9.0, 0.0), (0.0, 0.0, 9.0)
+    other = (0.0, 0.0, 0.000051)
+    return part([(1, 0, [a, c, b]), (1, 1, [a, b, d]), (1, 2, [other, d, c]), (1, 3, [b, c, d])], job(process=FDM, layer=0.001))
 
 
 def two_hollows():
@@ -104,7 +125,11 @@ SHOWN = {
     "open_bore": open_bore(0.2 - 2e-7),
     "drill_point": drill_point(),
     "leaning": leaning(),
-    "triangle": triangle(),
+    "flipped": tetrahedron(flipped=True),
+    "thrice": thrice(),
+    "short_side": short_side(),
+    "corner_moved": tetrahedron(move=(0.00003, 0.0, 0.0)),
+    "between_keys": between_keys(),
     "two_hollows": two_hollows(),
     "warped": warped(),
     "two_layers": two_layers(),
