@@ -1,3 +1,3 @@
 // The lines of OBJ text.
-mod field;
+pub mod field;
 pub mod line;
