@@ -41,3 +41,11 @@ pub record Axis (f : Vec3 → Float) (vs : List Vec3) (numbers : List ℕ) (used
 unfoldable pub advanced : Window → Window
 advanced w =
     cond (eqb (w .count) 16384) (record { base = w .base + 16384; count = 1 }) (record { base = w .base; count = w .count + 1 })
+
+-- ---- one more vertex in the window
+-- The coordinate x of a vertex is kept, and whatever coordinate the tables hold of whatever vertices, they then hold for the window with one more.
+pub record Kept (x : Float) (numbers : List ℕ) (used : ℕ) (w : Window) (slots corners slots' corners' : List Float) : Type 0 where
+  pub slots-same : length slots' ≡ length slots
+  pub corners-same : length corners' ≡ length corners
+  pub axis : (f : Vec3 → Float) (vs : List Vec3) → Axis f vs numbers used (w .base) (w .count) slots corners → x ≡ f (getD vs (w .base + w .count) origin)
+      → Axis f vs numbers used (advanced w .base) (advanced w .count) slots' corners'

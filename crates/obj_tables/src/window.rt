@@ -4,7 +4,7 @@
 ghost use mathlib.Core.Path.{_≡_};
 ghost use Prim.Native.Nat.{_+_, _^_, _≤_, _<_};
 ghost use lib.ListN.{length};
-ghost use Rattle.obj_tables.specs.Tables.{picked, Flushed, advanced};
+ghost use Rattle.obj_tables.specs.Tables.{picked, Flushed, advanced, Kept};
 
 // The vertices after the first `base`, `count` of them.
 pub struct Window {
@@ -63,4 +63,19 @@ pub fn flush(
         corners[c] = pick(slots, base, count, number, old);
         c += 1;
     }
+}
+
+// One more vertex, by one coordinate: a full window is flushed first.
+pub fn keep(x: f64, numbers: &[u64], used: usize, w: Window, slots: &mut [f64], corners: &mut [f64])
+    requires { ⌜ used ≤ length (now numbers) ⌝ ∗ ⌜ used ≤ length (now corners) ⌝ ∗ ⌜ length (now slots) ≡ 16384 ⌝ ∗ ⌜ w .count ≤ 16384 ⌝ }
+    ensures { λ _. ⌜ Kept x (now (numbers .entry)) used w (now (slots .entry)) (now (corners .entry)) (now (slots .exit)) (now (corners .exit)) ⌝ }
+{
+    let base = w.base;
+    let count = w.count;
+    if count == 16384 {
+        flush(numbers, used, base, slots, count, corners);
+        slots[0] = x;
+        return;
+    }
+    slots[count as usize] = x;
 }

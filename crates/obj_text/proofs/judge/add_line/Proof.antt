@@ -1,6 +1,7 @@
 -- `obj_text::judge::add_line` meets its contract: a case for each form.
 use borrow.Author.Needs.{needs}
 use Rattle.obj_text.proofs.TallyLaws.{add-refused, add-vertex, add-face, add-group, add-skipped, add-other}
+use native.Mathlib.Omega.{arith}
 use Rattle.obj_text.proofs.judge.add_line.Statement.{statement}
 use Rattle.obj_text.proofs.judge.add_line.Tie as tie
 
@@ -14,7 +15,7 @@ enum-known-line : tie.Need-enum-known-line
 enum-known-line c = search needs
 
 returns : tie.Need-returns
-returns c = add-refused (c .before .before .before .before .before .args .t) (c .before .before .before .before .before .args .line) _ (c .before .before .before .line .given .1) (c .if1 .taken)
+returns c = add-refused (c .before .before .before .before .before .args .t) (c .before .before .before .before .before .args .line) _ (c .before .before .before .line .given .1) (omega (arith, c .if1 .taken))
 
 add-up-to-requires : tie.Need-add-up-to-requires
 add-up-to-requires c κs = search needs
@@ -35,7 +36,7 @@ returns-2 : tie.Need-returns-2
 returns-2 c = add-vertex (c .before .before .before .args .t) (c .before .before .before .args .line) _ (c .before .enum-told .given .1)
 
 returns-3 : tie.Need-returns-3
-returns-3 c = add-face (c .before .before .before .before .before .before .before .args .t) (c .before .before .before .before .before .before .before .args .line) _ _ _ (c .before .before .before .before .before .line .given .1) (c .before .before .if1 .left) (c .before .add-up-to .ensures) (c .add-up-to2 .ensures)
+returns-3 c = add-face (c .before .before .before .before .before .before .before .args .t) (c .before .before .before .before .before .before .before .args .line) _ _ _ (c .before .before .before .before .before .line .given .1) (omega (arith, c .before .before .if1 .left)) (c .before .add-up-to .ensures) (c .add-up-to2 .ensures)
 
 returns-4 : tie.Need-returns-4
 returns-4 c = add-group (c .before .before .args .t) (c .before .before .args .line) _ (c .enum-told2 .given .1)
