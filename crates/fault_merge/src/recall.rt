@@ -28,9 +28,9 @@ fn same_row(r: FaultRow, s: FaultRow) -> bool
 
 // A mix of a number's bits: their remainder by a prime.
 fn mixed(x: f64) -> u64
-    ensures { λ r. ⌜ r < 4294967291 ⌝ }
+    ensures { λ r. ⌜ r < 4093 ⌝ }
 {
-    to_bits(x) % 4294967291
+    to_bits(x) % 4093
 }
 
 // The cell from `end` to before n in which a fault with this row may stand, or n where there is none.
