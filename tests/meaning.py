@@ -141,8 +141,16 @@ def reach(mods):
     return seen, spoken
 
 
+TYPED = re.compile(r'^(?:abbrev |unfoldable |opaque )?(?:pub )?\S+ : ')
+
+
 def bare(lines):
     return sum(1 for line in lines if not line.lstrip().startswith(('--', '//')))
+
+
+def typed(lines):
+    """Lines that only give a definition its type: the checker holds the definition to it, so there is nothing to believe in them."""
+    return sum(1 for line in lines if TYPED.match(line))
 
 
 def listed():
@@ -158,17 +166,19 @@ def listed():
         files.setdefault((crate, path), []).append((place, name, lines))
     order = crates()
     out = ['| File | Definitions | Lines |', '|---|---|---|']
-    total = 0
+    total = types_alone = 0
     for crate, path in sorted(files, key=lambda k: (order.index(k[0]), '/src/' not in k[1], k[1])):
         defs = sorted(files[crate, path])
         lines = sum(bare(lines) for _, _, lines in defs)
         is_table = path.endswith(os.path.join(*TABLE[:1], 'specs', TABLE[1] + '.antt'))
         total += 0 if is_table else lines
+        types_alone += 0 if is_table else sum(typed(lines) for _, _, lines in defs)
         names = ', '.join('`%s`' % name for _, name, _ in defs)
         out.append('| %s | %s | %d |' % (os.path.relpath(path, ROOT), names, lines))
     count = sum(len(defs) for defs in files.values())
     out.append('')
-    out.append('%d definitions in %d files, %s lines without comments and without the sine table.' % (count, len(files), format(total, ',')))
+    out.append('%d definitions in %d files, %s lines without comments and without the sine table: %d that only give a definition its type, which the checker holds '
+               'it to, and %s that say what is meant.' % (count, len(files), format(total, ','), types_alone, format(total - types_alone, ',')))
     return out
 
 

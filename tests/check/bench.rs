@@ -1,7 +1,8 @@
 //! Times from part file to report beside the Rust's, with the replacements and as published: the reader of part files, the check and the printing,
 //! all in the time. And of merging and printing about 2,048 faults, in few lines and in many: ours is the time of the check less that of a check which
 //! is lent one fault row too few, so that it finds all faults and is refused before it merges them; the Rust's is taken by itself. Each time is the best
-//! of many, taken in turn in one run. A word names the benchmark: machining, sheet and printing time the parts of their processes alone.
+//! of many, taken in turn in one run. A word names the benchmark: machining, sheet and printing time the parts of their processes alone, castings those of
+//! one face of 2,048 triangles by every process.
 #[path = "../lib/best.rs"]
 mod best;
 #[path = "../rays/bores.rs"]
@@ -20,6 +21,9 @@ mod holes;
 #[path = "../oracle/generate/job.rs"]
 #[allow(dead_code)]
 mod job;
+#[path = "../rays/large.rs"]
+#[allow(dead_code)]
+mod large;
 #[path = "../shapes/mesh.rs"]
 mod mesh;
 #[path = "../oracle/generate/part.rs"]
@@ -50,6 +54,8 @@ mod space;
 #[path = "../machining/voxels.rs"]
 #[allow(dead_code)]
 mod voxels;
+#[path = "../rays/walls.rs"]
+mod walls;
 
 mod many;
 mod timed;
@@ -188,9 +194,11 @@ fn main() {
         "machining" => (&[CNC], Vec::new()),
         "sheet" => (&[SHEET], Vec::new()),
         "printing" => (&[FDM, SLA, SLS], Vec::new()),
+        "castings" => (&[CNC, SHEET, FDM, SLA, SLS], Vec::new()),
         _ => (&[CNC, SHEET, FDM, SLA, SLS], timed::of_many_faults()),
     };
-    let parts = timed::by_size().into_iter().filter(|part| processes.contains(&part.process));
+    let all = if name == "castings" { timed::of_one_face() } else { timed::by_size() };
+    let parts = all.into_iter().filter(|part| processes.contains(&part.process));
     let mut ratios: Vec<(usize, [f64; 2])> = parts.map(|part| whole("check", &part)).collect();
     ratios.extend(many.iter().map(|part| whole("check of many faults", part)));
     let most = |list: &mut dyn Iterator<Item = f64>| list.fold(0.0, f64::max);

@@ -12,7 +12,7 @@ use crate::{
 };
 
 /// As the generator draws it, or as the tests of machining, sheet metal and printing do.
-fn job(random: &mut Random) -> Vec<u8> {
+pub fn job(random: &mut Random) -> Vec<u8> {
     let process = random.below(PROCESSES.len() as u64) as u32;
     let mut job = match random.below(5) {
         0 => machining::job(random),
@@ -104,7 +104,8 @@ fn of_process(mut mesh: Mesh, process: u32) -> Mesh {
 pub fn of_many_faults() -> Vec<(String, Mesh)> {
     let pits = [(682, 0), (683, 1), (684, 2), (683, 0), (1024, 0)];
     let bends = [(341, 0), (341, 1), (341, 2), (341, 3), (400, 400)];
-    let volumes = [(2047, 1), (2048, 1), (2049, 1), (2047, 2047), (2048, 2048), (2049, 2049), (2048, 16), (4096, 7)];
+    // and that they are not closed is one more
+    let volumes = [(2046, 1), (2047, 1), (2048, 1), (2046, 2046), (2047, 2047), (2048, 2048), (2047, 16), (4096, 7)];
     let corners = pits.map(|(n, other)| (format!("{n} pits, {other}"), of_process(voxels::pits(n, other), 0)));
     let flanges = bends.map(|(n, tight)| (format!("{n} bends, {tight} tight"), of_process(sheet_limits::many_faults(n, 6, tight), 1)));
     let hollows = volumes.map(|(n, volumes)| (format!("{n} hollows of {volumes} volumes"), many::hollows(n, volumes)));

@@ -53,7 +53,7 @@ const OF_A_REPORT: [&str; 9] = [
 ];
 
 /// Rules whose faults are never equal: there is one at the most, or it counts faces.
-const NEVER_MERGED: [&str; 4] = ["Material", "No material", "Not one thickness", "Overhang"];
+const NEVER_MERGED: [&str; 5] = ["Material", "No material", "Not closed", "Not one thickness", "Overhang"];
 
 const SIDES: [&str; 3] = ["one too few", "just enough", "more"];
 

@@ -99,6 +99,7 @@ mod many;
 mod parts;
 mod seen;
 mod sizes;
+mod thin;
 
 use compare::Compare;
 use mesh::Mesh;
@@ -110,6 +111,8 @@ use std::thread;
 
 const LEAST: u64 = 1_000_000;
 const SHAPES: u64 = 150_000;
+/// Parts whose lengths crowd around 0.1 mm and below.
+const THIN: u64 = 1_000_000;
 /// The complaint that started it all has one answer in so many runs.
 const RUNS: u64 = 1_000;
 /// Changed copies of larger files cost more than they show.
@@ -164,6 +167,10 @@ fn own(c: &mut Compare, thread: u64, threads: u64, quick: bool, corner: &[u8]) {
     for number in (thread..shapes).step_by(threads as usize) {
         shape(c, number);
     }
+    let thin = if quick { THIN / 100 } else { THIN };
+    for number in (thread..thin).step_by(threads as usize) {
+        thin_part(c, number);
+    }
 }
 
 /// A part, a changed copy and a damaged one, by its number alone.
@@ -174,6 +181,14 @@ fn shape(c: &mut Compare, number: u64) {
     c.check(&parts::changed(&mut random, &mesh).bytes(), || format!("shape {number}, changed"));
     if number % 4 == 0 {
         c.check(&parts::damaged(&mut random, &mesh), || format!("shape {number}, damaged"));
+    }
+}
+
+/// A part of thin lengths, by its number alone.
+fn thin_part(c: &mut Compare, number: u64) {
+    let file = thin::draw(&mut Random(Random(53).next() ^ Random(!number).next())).bytes();
+    if c.check(&file, || format!("thin part {number}")) == 0 {
+        thin::count(&mut c.seen, &file);
     }
 }
 
@@ -215,7 +230,7 @@ fn report(done: Vec<Compare>, quick: bool) -> i32 {
         std::fs::write(DIFFERENT, &file).expect("a place for the file");
         println!("check: the smallest file with a difference, {} bytes, is in {DIFFERENT}", file.len());
     }
-    let rare = seen.too_rare();
+    let rare = [seen.too_rare(), thin::too_rare(&seen)].concat();
     let few = !quick && (files < LEAST || !rare.is_empty());
     if few {
         println!("check: fewer than {LEAST} files, or too rare: {}", rare.join("; "));

@@ -3,6 +3,7 @@
 use crate::file;
 use crate::holes;
 use crate::job::{Job, CNC, FDM, SHEET, SLA, SLS};
+use crate::large;
 use crate::many;
 use crate::mesh::Mesh;
 use crate::part::Part;
@@ -44,6 +45,17 @@ pub fn by_size() -> Vec<Timed> {
     let sheets = [(1, 2), (2, 4), (3, 11), (3, 14)].map(with_holes).into_iter();
     let printed = [FDM, SLA, SLS].into_iter().flat_map(|process| of_process(process, prints::all(process)));
     plates.chain(of_process(CNC, plates::all())).chain(sheets).chain(of_process(SHEET, holes::all())).chain(printed).collect()
+}
+
+/// Castings with a face of 2,048 triangles, of one area or of two, or curved, by every process.
+pub fn of_one_face() -> Vec<Timed> {
+    let by = |process: u32| {
+        large::for_readings().into_iter().map(move |(name, mut mesh)| {
+            mesh.job = Mesh::read(&file::bytes(&Part::default(), &Job::defaults(process))).job;
+            Timed { name, process, file: mesh.bytes() }
+        })
+    };
+    [CNC, SHEET, FDM, SLA, SLS].into_iter().flat_map(by).collect()
 }
 
 /// About as many faults as there may be, in few lines and in many.

@@ -1,13 +1,24 @@
 //! Bores of many facets, in the orders that a modeller gives them.
 use crate::bores::{Axis, Wall, WORLD};
-use crate::mesh::{Mesh, Polygon};
+use crate::mesh::{Mesh, Point, Polygon};
 use std::f64::consts::TAU;
 
-/// One bore alone.
-fn bore(facets: usize, triangles: bool, falling: bool) -> Mesh {
-    let angles = (0..facets).map(|k| TAU * k as f64 / facets as f64).collect();
-    let wall = Wall { frame: WORLD, angles, closed: true, radius: 50.0, heights: [0.0, 10.0], inward: true, triangles };
-    let mut facets = wall.polygons();
+/// One bore alone: so many columns of facets, each of so many strips, one above the other.
+fn bore(columns: usize, strips: usize, triangles: bool, falling: bool) -> Mesh {
+    let angles: Vec<f64> = (0..columns).map(|k| TAU * k as f64 / columns as f64).collect();
+    let height = |s: usize| 10.0 * s as f64 / strips as f64;
+    let strip = |s: usize| Wall {
+        frame: WORLD,
+        angles: angles.clone(),
+        closed: true,
+        radius: 50.0,
+        heights: [height(s), height(s + 1)],
+        inward: true,
+        triangles,
+    };
+    let strips: Vec<Vec<Vec<Point>>> = (0..strips).map(|s| strip(s).polygons()).collect();
+    let facet = if triangles { 2 } else { 1 };
+    let mut facets: Vec<Vec<Point>> = (0..columns).flat_map(|k| strips.iter().flat_map(move |s| s[facet * k..facet * (k + 1)].to_vec())).collect();
     if falling {
         facets.reverse();
     }
@@ -20,13 +31,15 @@ fn bore(facets: usize, triangles: bool, falling: bool) -> Mesh {
     mesh
 }
 
-/// Each with a name: rising, falling, and each facet as two triangles.
+/// Each with a name: rising, falling, in strips, and each facet as two triangles.
 pub fn all() -> Vec<(String, Mesh)> {
     let mut list = Vec::new();
-    for (facets, triangles) in [(64, false), (64, true), (4096, false), (2048, true)] {
+    let sizes = [(64, 1, false), (64, 1, true), (4096, 1, false), (2048, 1, true), (1024, 4, false), (512, 8, false), (512, 4, true), (256, 8, true)];
+    for (columns, strips, triangles) in sizes {
         for falling in [false, true] {
             let (order, form) = (if falling { "falling" } else { "rising" }, if triangles { ", two triangles a facet" } else { "" });
-            list.push((format!("a bore of {facets} facets, {order}{form}"), bore(facets, triangles, falling)));
+            let name = format!("a bore of {columns} columns of {strips}, {order}{form}");
+            list.push((name, bore(columns, strips, triangles, falling)));
         }
     }
     list

@@ -1,5 +1,5 @@
 #!/usr/bin/env python3
-"""Where the unpatched Rust and the patched one disagree, how often, and by which of the six replacements or by the rule of own boxes, number 7.
+"""Where the unpatched Rust and the patched one disagree, how often, and by which of the six replacements or of the rules of later requests.
 
 usage: tests/oracle/differences.py COUNT [SEED] [--keep DIR]
 
@@ -29,6 +29,7 @@ CAUSES = {
     5: "Not closed",
     6: "order of hollows",
     7: "own boxes",
+    8: "thin lengths",
 }
 
 

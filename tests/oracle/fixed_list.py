@@ -18,8 +18,10 @@ import subprocess
 import sys
 
 import examples
+import shown
 from differences import OUT, frames, framed, run
 from parts import FDM, SHEET, SLA, SLS, bore, box, holed_plate, job, part
+from shown import drill_point
 
 HERE = os.path.dirname(os.path.abspath(__file__))
 CRATES = os.path.join(HERE, "..", "..", "crates")
@@ -55,6 +57,8 @@ def edges():
     for radius in around(0.5):
         yield part(bore(radius, 1.0), job())
         yield part(bore(radius, 1.0)[:20], job())
+    for off in [0.0] + around(1e-6):
+        yield drill_point(off)
     side = 1e-3
     for height in around(1e-3):
         hollow = box((0.0, 0.0, 0.0), (side, side, height), feature=3, inward=True)
@@ -62,6 +66,12 @@ def edges():
     for layer in around(0.2):
         yield part(box((0.0, 0.0, 0.0), (20.0, 0.2, 20.0)), job(process=FDM, layer=layer))
         yield part(box((0.0, 0.0, 0.0), (20.0, 0.4, 20.0)), job(process=SLA, layer=layer))
+    for height in around(0.1):
+        yield part(box((0.0, 0.0, 0.0), (20.0, height, 20.0)), job(process=SLA, layer=0.3))
+        yield part(box((0.0, 0.0, 0.0), size + (height,)), job())
+    for layer in (0.025, 0.03, 0.1):
+        yield part(box((0.0, 0.0, 0.0), (20.0, 0.04, 20.0)), job(process=SLA, layer=layer))
+    yield shown.SHOWN["two_layers"]
     for nozzle in around(0.4):
         yield part(box((0.0, 0.0, 0.0), (0.4, 20.0, 20.0)), job(process=FDM, flags=2, nozzle=nozzle))
 

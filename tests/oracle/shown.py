@@ -9,7 +9,7 @@ import math
 import sys
 
 from differences import framed, run
-from parts import CYLINDER, FDM, SLS, job, part
+from parts import CYLINDER, FDM, SLA, SLS, job, part
 
 RUNS = 40
 
@@ -52,14 +52,43 @@ def open_bore(gap, facets=31):
     return part([(1, 0, points, CYLINDER, (0.0, 0.0, 0.0, 0.0, 0.0, 1.0, 1.0))], job())
 
 
+def drill_point(off=0.0):
+    """The same about +y, from which directions are counted, with its tip on the axis in the same polygon, or so far beside it."""
+    gap, facets = 0.395, 30
+    angles = [math.pi / 2 + gap / 2 + (2 * math.pi - gap) * i / facets for i in range(facets + 1)]
+    points = [(math.cos(t), math.sin(t), 9.0 if i == facets // 2 else 0.0) for i, t in enumerate(angles)]
+    return part([(1, 0, points + [(0.0, off, 0.0)], CYLINDER, (0.0, 0.0, 0.0, 0.0, 0.0, 1.0, 1.0))], job())
+
+
 def leaning():
     """A triangle whose lean has a sine of 1e-9 above that of 45 degrees, between what `sin` and the table allow."""
     up = (0.7071067811865475, 0.0, 0.7071067831865475)
     return part([(1, 0, [(0.0, 0.0, 0.0), (0.0, 9.0, 0.0), (9.0, 0.0, 0.0)])], job(process=FDM, flags=4, tenths=450, up=up))
 
 
-def triangle():
-    return part([(1, 0, [(0.0, 0.0, 0.0), (0.0, 9.0, 0.0), (9.0, 0.0, 0.0)])], job(process=FDM))
+def tetrahedron(move=(0.0, 0.0, 0.0), flipped=False):
+    """Closed, but for one corner of its last triangle, which is moved, or for that triangle's turn, which is the other one."""
+    a, b, c, d = (0.0, 0.0, 0.0), (9.0, 0.0, 0.0), (0.0, 9.0, 0.0), (0.0, 0.0, 9.0)
+    last = [b, c, tuple(x + y for x, y in zip(d, move))]
+    return part([(1, 0, [a, c, b]), (1, 1, [a, b, d]), (1, 2, [a, d, c]), (1, 3, last[::-1] if flipped else last)], job(process=FDM, layer=0.001))
+
+
+def thrice():
+    """One triangle three times: each of its keys has three sides."""
+    corners = [(0.0, 0.0, 0.0), (0.0, 9.0, 0.0), (9.0, 0.0, 0.0)]
+    return part([(1, i, corners) for i in range(3)], job(process=FDM))
+
+
+def short_side():
+    """A side of 0.00003 mm, whose two ends have one key of 1e4 and two of 1e5."""
+    return part([(1, 0, [(0.0, 0.0, 0.0), (0.0, 9.0, 0.0), (9.0, 0.0, 0.0), (0.00003, 0.0, 0.0)])], job(process=FDM))
+
+
+def between_keys():
+    """Two corners 0.000002 mm apart that have one key of 1e5, with a border of keys of 1e4 between them."""
+    a, b, c, d = (0.0, 0.0, 0.000049), (9.0, 0.0, 0.0), (0.0, 9.0, 0.0), (0.0, 0.0, 9.0)
+    other = (0.0, 0.0, 0.000051)
+    return part([(1, 0, [a, c, b]), (1, 1, [a, b, d]), (1, 2, [other, d, c]), (1, 3, [b, c, d])], job(process=FDM, layer=0.001))
 
 
 def two_hollows():
@@ -78,16 +107,32 @@ def warped():
     return part([(1, 0, square), (1, 1, under)], job())
 
 
+def two_layers():
+    """Two roofs over two floors, 0.025 and 0.03 mm thick, of a resin print."""
+    polygons = []
+    for i, thick in enumerate((0.025, 0.03)):
+        x = 9.0 * i
+        polygons.append((1, 2 * i, [(x, 0.0, 0.0), (x + 4.0, 0.0, 0.0), (x, 0.0, 4.0)]))
+        polygons.append((1, 2 * i + 1, [(x, thick, 0.0), (x, thick, 4.0), (x + 4.0, thick, 0.0)]))
+    return part(polygons, job(process=SLA, layer=0.05))
+
+
 SHOWN = {
     "corner": corner([0.0, 10.0, 20.0], (0.0, 10.0)),
     "sums": corner([0.0, 0.03, 0.08, 0.375], (-1.0, 2.0)),
     "tie": tie(),
     "short_sides": short_sides(),
     "open_bore": open_bore(0.2 - 2e-7),
+    "drill_point": drill_point(),
     "leaning": leaning(),
-    "triangle": triangle(),
+    "flipped": tetrahedron(flipped=True),
+    "thrice": thrice(),
+    "short_side": short_side(),
+    "corner_moved": tetrahedron(move=(0.00003, 0.0, 0.0)),
+    "between_keys": between_keys(),
     "two_hollows": two_hollows(),
     "warped": warped(),
+    "two_layers": two_layers(),
 }
 
 

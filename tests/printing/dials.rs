@@ -1,7 +1,6 @@
 //! Parts of printing that hang on one number: where up points, how large the part is, how far a piece of it stands off.
 use crate::arrange;
 use crate::dial::{self, Dial};
-use crate::field::{real, set_real, word};
 use crate::ids::Id;
 use crate::jobs;
 use crate::mesh::Mesh;
@@ -57,13 +56,7 @@ fn turned(random: &mut Random, mesh: Mesh) -> Dial {
 fn scaled(mesh: Mesh) -> Dial {
     Dial::new([1e-3, 20.0], move |x| {
         let mut copy = mesh.clone();
-        copy.points_mut().flatten().for_each(|c| *c *= x);
-        for entry in copy.polygons.iter_mut().map(|p| &mut p.entry).filter(|e| word(e, 16) == 1) {
-            for at in [24, 32, 40, 72] {
-                let scaled = real(entry, at) * x;
-                set_real(entry, at, scaled);
-            }
-        }
+        copy.scale(x);
         copy
     })
 }

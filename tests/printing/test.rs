@@ -59,6 +59,7 @@ mod voxels;
 #[path = "../rays/walls.rs"]
 mod walls;
 
+mod closed;
 mod dials;
 mod fit;
 mod floors;
@@ -83,7 +84,8 @@ fn main() {
 }
 
 fn own(c: &mut Files<Printing>, quick: bool) {
-    let (shapes, dials, rounds) = if quick { (1_500, 200, 1) } else { (45_000, 12_000, 2) };
+    let (shapes, dials, rounds, bodies) = if quick { (1_500, 200, 1, 3_500) } else { (45_000, 12_000, 2, 525_000) };
+    own_bodies(c, bodies);
     own_shapes(c, shapes);
     every_limit(c, if quick { 90 } else { 1 });
     own_dials(c, dials);
@@ -135,6 +137,16 @@ fn draw(random: &mut Random) -> Mesh {
     mesh
 }
 
+/// Closed bodies, and each with what opens it.
+fn own_bodies(c: &mut Files<Printing>, count: usize) {
+    let mut random = Random(45);
+    for number in 0..count {
+        let (what, change) = closed::CHANGES[number % closed::CHANGES.len()];
+        c.check(&closed::draw(&mut random, change).bytes(), || format!("body {number}, {what}"));
+        c.counts.add(what, 1);
+    }
+}
+
 fn own_shapes(c: &mut Files<Printing>, count: u64) {
     let mut random = Random(46);
     for number in 0..count {
@@ -173,11 +185,11 @@ fn own_dials(c: &mut Files<Printing>, count: u64) {
     }
 }
 
-/// About as many as there are rows at the most, and more.
+/// About as many as there are rows at the most, and more: the hollows, and that they are not closed.
 fn many_faults(c: &mut Files<Printing>, rounds: u64) {
     let mut random = Random(49);
     for _ in 0..rounds {
-        for count in [2047, 2048, 2049, 4096] {
+        for count in [2046, 2047, 2048, 4096] {
             c.check(&hollows::many(&mut random, count).bytes(), || format!("{count} hollows"));
         }
     }

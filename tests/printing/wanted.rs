@@ -1,4 +1,5 @@
 //! What the comparison is to see, and how often each of it occurs in a part.
+use crate::closed;
 use crate::counts::{Counts, SMALL};
 use crate::field::word;
 use crate::frame::Rules;
@@ -10,10 +11,29 @@ use crate::ups;
 use oracle::faults::{DfmReport, Part};
 
 /// What is to occur beside what every process has, and how often at the least.
-const WANTED: [(&str, u64); 72] = [
+const WANTED: [(&str, u64); 91] = [
     ("FDM", 50_000),
     ("SLA", 50_000),
     ("SLS", 50_000),
+    ("Not closed, Error", 10_000),
+    ("a body as it is", 50_000),
+    ("a polygon missing", 50_000),
+    ("a polygon too many", 50_000),
+    ("a polygon flipped", 50_000),
+    ("bodies glued along an edge", 50_000),
+    ("a side about as short as a key", 50_000),
+    ("a corner moved by about a key", 50_000),
+    ("no open key", 50_000),
+    ("one open key to three", 10_000),
+    ("more than 9 open keys", 10_000),
+    ("a key of three sides", 10_000),
+    ("a key of four sides", 10_000),
+    ("two sides of a key run the same way", 10_000),
+    ("sides of no key", 10_000),
+    ("another number with keys of 1e5", 10_000),
+    ("no open key, but the published Rust counts some", 10_000),
+    ("open keys, but the published Rust counts none", 300),
+    ("as many open keys as findings", 1_000),
     ("Thinner than a layer, Error", 1_000),
     ("Few layers, Warning", 1_000),
     ("Thinner than the nozzle, Error", 1_000),
@@ -129,6 +149,7 @@ impl Rules for Printing {
     fn note(counts: &mut Counts, mesh: &Mesh, faces: &[Id], part: &Part, report: &DfmReport) {
         counts.findings(mesh, faces, &report.findings);
         counts.add(jobs::process(&mesh.job).short_label(), 1);
+        closed::note(counts, mesh, report);
         let print = Print::of(&mesh.job);
         counts.add("a material", u64::from(word(&mesh.job, 4) & 1));
         note_print(counts, &print);

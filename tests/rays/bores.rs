@@ -8,7 +8,7 @@ use crate::shapes::{any_point, nudge, pick, shuffle, within};
 use std::f64::consts::{FRAC_PI_2, TAU};
 
 /// A gap of so many rad is too wide for a hole: its tangent is 0.20271.
-fn gap() -> f64 {
+pub fn gap() -> f64 {
     0.20271f64.atan()
 }
 
@@ -49,7 +49,7 @@ impl Frame {
     }
 
     /// The angle of a direction across z.
-    fn angle(&self, v: Point) -> f64 {
+    pub fn angle(&self, v: Point) -> f64 {
         let along = |axis: Point| (0..3).map(|k| v[k] * axis[k]).sum::<f64>();
         along(self.y).atan2(along(self.x))
     }
@@ -77,10 +77,15 @@ impl Axis {
         Axis { origin: frame.at(0.0, 0.0, along).map(within), dir: frame.z.map(|c| c * long), radius }
     }
 
-    /// The direction that offsets are first measured along, which a vertex on the axis counts as.
-    fn first(&self) -> Point {
+    /// The direction that offsets are first measured along.
+    pub fn first(&self) -> Point {
         let axis = unit(self.dir);
-        cross(axis, if axis[0].abs() < 0.9 { WORLD.x } else { WORLD.y })
+        unit(cross(axis, if axis[0].abs() < 0.9 { WORLD.x } else { WORLD.y }))
+    }
+
+    /// And the second, across it.
+    pub fn second(&self) -> Point {
+        cross(unit(self.dir), self.first())
     }
 
     pub fn on(&self, polygon: &mut Polygon) {
@@ -128,7 +133,7 @@ pub struct Wall {
 }
 
 impl Wall {
-    fn corner(&self, k: usize, height: usize) -> Point {
+    pub fn corner(&self, k: usize, height: usize) -> Point {
         let (s, c) = self.angles[k % self.angles.len()].sin_cos();
         self.frame.at(self.radius * c, self.radius * s, self.heights[height])
     }
@@ -153,7 +158,7 @@ impl Wall {
     }
 
     /// Triangles from the upper rim to one point.
-    fn tip(&self, tip: Point) -> Vec<Vec<Point>> {
+    pub fn tip(&self, tip: Point) -> Vec<Vec<Point>> {
         let triangle = |k: usize| {
             let (a, b) = if self.inward { (k + 1, k) } else { (k, k + 1) };
             vec![self.corner(a, 1), self.corner(b, 1), tip]
@@ -191,7 +196,7 @@ pub fn bore(random: &mut Random, mesh: &mut Mesh) {
     }
 }
 
-/// A bore open to the side that a vertex on the axis counts as, with a tip on the axis or just beside it: only with the tip it is a hole.
+/// A bore open to the side that offsets are first measured along, with a tip on the axis or just beside it: a hole only where the tip gives a direction.
 pub fn tipped(random: &mut Random, mesh: &mut Mesh) {
     let frame = Frame::draw(random);
     let axis = Axis::draw(random, &frame, 2.0);

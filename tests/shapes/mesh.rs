@@ -1,6 +1,6 @@
 //! The polygons of a part file as a list, to be read, changed and written again.
 #![allow(dead_code)]
-use crate::field::{set_real, set_word, word, Blocks};
+use crate::field::{real, set_real, set_word, word, Blocks};
 use crate::sample;
 
 pub const MOST_VERTICES: usize = 16_384;
@@ -95,6 +95,17 @@ impl Mesh {
     pub fn set_radius(&mut self, face: (u32, u32), radius: f64) {
         for polygon in self.polygons.iter_mut().filter(|p| p.face() == face && word(&p.entry, 16) == 1) {
             set_real(&mut polygon.entry, 72, radius);
+        }
+    }
+
+    /// The whole at so many times its size, the cylinders' axes and radii too.
+    pub fn scale(&mut self, by: f64) {
+        self.points_mut().flatten().for_each(|c| *c *= by);
+        for entry in self.polygons.iter_mut().map(|p| &mut p.entry).filter(|e| word(e, 16) == 1) {
+            for at in [24, 32, 40, 72] {
+                let scaled = real(entry, at) * by;
+                set_real(entry, at, scaled);
+            }
         }
     }
 

@@ -1,5 +1,5 @@
 //! The forms of the check that own their buffers.
-use crate::{check_with, FaultRow, Refusal, Report, Scratch, MOST_REPORT, MOST_ROWS};
+use crate::{check_with, FaultRow, Refusal, Report, Scratch, MOST_POLYGONS, MOST_REPORT, MOST_ROWS, MOST_VERTICES};
 
 /// Most parts have fewer faults, and shorter reports.
 const FIRST_ROWS: usize = 256;
@@ -15,14 +15,14 @@ const FIRST_REPORT: usize = 32_768;
 /// assert_eq!(gablemadder::check(b"no part"), Err(Refusal::TooShort));
 /// ```
 pub fn check(file: &[u8]) -> Result<Report<'static>, Refusal> {
-    Checker::new().check(file).map(Report::into_owned)
+    Checker::new().run(file).map(Report::into_owned)
 }
 
 /// Checks parts one after the other in buffers that it keeps.
 ///
-/// The buffers grow to what the largest part so far needed and then stay: a part that needs no more is checked without allocating, and its report
-/// read too. There are 256 rows and 32,768 bytes for the report at first. The first part for which these are too few is checked a second time, with
-/// [`MOST_ROWS`] and [`MOST_REPORT`], and all parts after it are lent as many.
+/// The first part allocates what any part may need, below 4 MiB, and nothing is allocated after it: not for a larger part, nor to read its report. At
+/// first 256 rows and 32,768 bytes for the report are lent, since all that is lent is cleared. The first part for which these are too few is checked a
+/// second time, with [`MOST_ROWS`] and [`MOST_REPORT`], and all parts after it are lent as many.
 ///
 /// ```
 /// # fn main() -> Result<(), Box<dyn std::error::Error>> {
@@ -41,6 +41,8 @@ pub struct Checker {
     reals: Vec<f64>,
     rows: Vec<FaultRow>,
     report: Vec<u8>,
+    /// A part has needed more rows, or a longer report, than are lent at first.
+    lends_most: bool,
 }
 
 impl Checker {
@@ -51,28 +53,43 @@ impl Checker {
 
     /// Checks a part file; its report stands in the checker until the next part. The same refusals come as from [`check`].
     pub fn check(&mut self, file: &[u8]) -> Result<Report<'_>, Refusal> {
-        let mut answer = self.attempt(file, FIRST_ROWS, FIRST_REPORT);
-        if matches!(answer, Err(Refusal::TooManyFaults | Refusal::ReportTooLong)) && self.report.len() < MOST_REPORT {
-            answer = self.attempt(file, MOST_ROWS, MOST_REPORT);
+        let most = Scratch::for_counts(MOST_VERTICES, MOST_POLYGONS);
+        grown(&mut self.words, most.words);
+        grown(&mut self.reals, most.reals);
+        grown(&mut self.rows, MOST_ROWS);
+        grown(&mut self.report, MOST_REPORT);
+        self.run(file)
+    }
+
+    /// The same in buffers that grow only as this part needs.
+    fn run(&mut self, file: &[u8]) -> Result<Report<'_>, Refusal> {
+        let mut answer = self.attempt(file);
+        if matches!(answer, Err(Refusal::TooManyFaults | Refusal::ReportTooLong)) && !self.lends_most {
+            self.lends_most = true;
+            answer = self.attempt(file);
         }
         let report = Report::parse(&self.report[..answer?]);
         Ok(report.expect("the library's reports are well formed"))
     }
 
-    /// The report's length, with at least so many rows, and bytes for the report.
-    fn attempt(&mut self, file: &[u8], rows: usize, report: usize) -> Result<usize, Refusal> {
+    /// The report's length.
+    fn attempt(&mut self, file: &[u8]) -> Result<usize, Refusal> {
         let scratch = Scratch::of(file);
-        // Only what the part needs is lent of the scratch, since all that is lent is cleared.
+        let (rows, report) = if self.lends_most { (MOST_ROWS, MOST_REPORT) } else { (FIRST_ROWS, FIRST_REPORT) };
         let words = grown(&mut self.words, scratch.words);
         let reals = grown(&mut self.reals, scratch.reals);
-        grown(&mut self.rows, rows);
-        grown(&mut self.report, report);
-        check_with(file, words, reals, &mut self.rows, &mut self.report)
+        let rows = grown(&mut self.rows, rows);
+        let report = grown(&mut self.report, report);
+        check_with(file, words, reals, rows, report)
     }
 }
 
 /// The first so many elements, which are made where there are fewer.
 fn grown<T: Clone + Default>(buffer: &mut Vec<T>, length: usize) -> &mut [T] {
+    if buffer.is_empty() {
+        // Zeros of the system's, which take no time until they are used.
+        *buffer = vec![T::default(); length];
+    }
     if buffer.len() < length {
         buffer.resize(length, T::default());
     }

@@ -19,7 +19,7 @@
 //! Three ways to call it, from the most comfortable to the barest:
 //!
 //! - [`check`] sizes and owns everything;
-//! - a [`Checker`] keeps its buffers from part to part, and allocates nothing once they are large enough;
+//! - a [`Checker`] keeps its buffers from part to part, and allocates nothing after its first;
 //! - [`check_with`] is the library's own call: all is lent by the caller, in the sizes that [`Scratch::of`] says, and nothing is allocated.
 //!
 //! The library keeps nothing between calls: threads may check at once, each with buffers of its own.

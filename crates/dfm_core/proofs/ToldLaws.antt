@@ -34,7 +34,7 @@ use Rattle.fault_text.specs.Job.{minWall}
 use Rattle.fault_text.specs.Kind.{enclosedHollowSla, enclosedHollowSls, sheetRule, printingRule, ruleOf}
 use Rattle.fault_text.specs.Machining.{minDrill, minMillRadius, thinWallFault, smallHoleFault, deepHoleMaxFault, deepHoleStandardFault, tightInsideRadiusFault, deepInsideCornerFault, sharpInsideCornerFault}
 use Rattle.fault_text.specs.Sheet.{noMaterialFault, materialFault, notOneThicknessFault, tightBendFault, shortFlangeFault, sheetSmallHoleFault, holeNearBendFault, holeNearEdgeFault}
-use Rattle.fault_text.specs.Printing.{twoLayers, thinnerThanALayerFault, fewLayersFault, thinnerThanTheNozzleFault, printThinWallFault, printSmallHoleFault, overhangFault, enclosedHollowSlaFault, enclosedHollowSlsFault}
+use Rattle.fault_text.specs.Printing.{twoLayers, notClosedFault, thinnerThanALayerFault, fewLayersFault, thinnerThanTheNozzleFault, printThinWallFault, printSmallHoleFault, overhangFault, enclosedHollowSlaFault, enclosedHollowSlsFault}
 use Rattle.fault_text.specs.Meaning.{faultOf, GoodRow}
 use Rattle.rule_corners.specs.declared.corner.Corner.{Corner}
 use Rattle.rule_corners.specs.Corners.{overCorners}
@@ -52,6 +52,7 @@ use Rattle.print_walls.specs.Walls as wall
 use Rattle.rule_sheet.specs.Material.{isFormed, materialFaults}
 use Rattle.rule_sheet.specs.Tight.{minRadius, tightBend, bendTight, tightBends}
 use Rattle.rule_sheet.specs.All.{unevenFault, bentFaults, isMeasured, formedFaults, sheetMetal, SheetPut}
+use Rattle.rule_printing.specs.Closed as closed
 use Rattle.rule_printing.specs.Rules as print
 use Rattle.rule_printing.specs.All.{printing, PrintingPut}
 use Rattle.report_faces.specs.Ready.{Told}
@@ -217,6 +218,10 @@ module _ (off over hollow : Type 0) where
       (λ e. each-cond (isMeasured t) (λ m. each-cond (isUneven t) (λ u. each-only (told e m u)) (bent-faults t (thicknessOf t))) each-none) each-none)
 
   -- ---- printing
+  not-closed : (t : Part) → Each AsksOf (closed.notClosed t)
+  unfolding closed.notClosed notClosedFault
+  not-closed t = each-cond (eqb (closed.openKeys t) 0) (λ e. each-none) (each-only tt)
+
   floor-fault : (t : Part) (f g : ℕ) (x : Float) → Each AsksOf (wall.floorFault t f g x)
   unfolding wall.floorFault thinnerThanALayerFault fewLayersFault
   floor-fault t f g x =
@@ -257,9 +262,10 @@ module _ (off over hollow : Type 0) where
   printed : (t : Part) → (t .job .print .«has_overhang» ≡ true → over) → (print.trapsHollows (t .job .process) ≡ true → hollow) → Each AsksOf (printing t)
   unfolding printing print.printHoles
   printed t hangs traps =
-      each-append (print-walls t)
+      each-append (not-closed t)
+      (each-append (print-walls t)
       (each-append (each-joined _ _ (print-hole t))
-      (each-append (overhangs-fault t hangs) (each-cond (print.trapsHollows (t .job .process)) (λ e. hollow-faults t (traps e)) each-none)))
+      (each-append (overhangs-fault t hangs) (each-cond (print.trapsHollows (t .job .process)) (λ e. hollow-faults t (traps e)) each-none))))
 
 -- ---- from faults to rows
 module _ (t : Part) (at : Regions) (words : List ℕ) where

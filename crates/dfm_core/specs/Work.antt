@@ -35,13 +35,13 @@ use Rattle.dfm_core.specs.declared.halves.Findings.{Findings}
 use Rattle.dfm_core.specs.Answer.{isAccepted, isEarly}
 
 -- ---- what a process asks for
--- segments where a rule asks for edges
+-- segments where a rule asks for edges or for open keys: every process has one
 unfoldable pub asksSegments : Process → Bool
 asksSegments CncMachining = true
 asksSegments SheetMetal = true
-asksSegments Fdm = false
-asksSegments Sla = false
-asksSegments Sls = false
+asksSegments Fdm = true
+asksSegments Sla = true
+asksSegments Sls = true
 
 pub record StagesFor (process : Process) (r : Stages) : Type 0 where
   pub segments : r .segments ≡ asksSegments process

@@ -30,15 +30,15 @@ pub(crate) fn stages_of(process: Process) -> Stages
             bodies: false,
         },
         Process::Fdm => Stages {
-            segments: false,
+            segments: true,
             bodies: false,
         },
         Process::Sla => Stages {
-            segments: false,
+            segments: true,
             bodies: true,
         },
         Process::Sls => Stages {
-            segments: false,
+            segments: true,
             bodies: true,
         },
     }

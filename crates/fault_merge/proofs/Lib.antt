@@ -14,11 +14,14 @@
 --   tally-more, tally-le                    one fault more, and how much at most
 -- CellLaws: opened-by, added-by             the stores
 -- MergeLaws: merged-none, merged-more       no fault, and one more; room-at, joined-at: in the words of the calls
+-- RecallLaws: rows that agree have one heading; cells past those of the faults. Other crates cite these:
+--   front-none, front-then, front-set, merged-front     the cells before a number stay, and with them the lines
 -- CountLaws: leaders-none, leaders-more, leaders-le   the faults that begin a line, counted
 pub mod TextLaws
 pub mod HashLaws
 pub mod LeadLaws
 pub mod CellLaws
 pub mod MergeLaws
+pub mod RecallLaws
 pub mod CountLaws
 pub mod RowLaws

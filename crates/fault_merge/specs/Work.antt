@@ -4,6 +4,7 @@ use mathlib.Core.List.{List}
 use mathlib.Core.Logic.{_⊎_}
 use Prim.Native.Nat.{ℕ, _+_, _*_, _≤_, _<_}
 use lib.ListN.{length, getD}
+use Rattle.fault_row.specs.declared.row.FaultRow.{FaultRow}
 
 pub record Opened (old : List ℕ) (i hash lead : ℕ) (new : List ℕ) : Type 0 where
   pub hash-is : getD new (4 * i) 0 ≡ hash
@@ -18,3 +19,16 @@ pub record Added (old : List ℕ) (lead count : ℕ) (new : List ℕ) : Type 0 w
   pub members-is : getD new (4 * lead + 3) 0 ≡ getD old (4 * lead + 3) 0 + 1
   pub others : (k : ℕ) → (k < 4 * lead + 2) ⊎ (4 * lead + 4 ≤ k) → getD new k 0 ≡ getD old k 0
   pub long : length new ≡ length old
+
+-- the cells before `from` are as they were
+pub record Front (from : ℕ) (old new : List ℕ) : Type 0 where
+  pub same : (k : ℕ) → k < from → getD new k 0 ≡ getD old k 0
+  pub long : length new ≡ length old
+
+-- two rows agree in all that severity, rule and text are made from
+pub record SameRow (r s : FaultRow) : Type 0 where
+  pub kind : r .kind ≡ s .kind
+  pub severity : r .severity ≡ s .severity
+  pub x : r .x ≡ s .x
+  pub y : r .y ≡ s .y
+  pub z : r .z ≡ s .z

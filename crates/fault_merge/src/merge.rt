@@ -7,10 +7,14 @@ ghost use lib.Dec.{eqb};
 ghost use lib.ListN.{length, getD};
 ghost use Rattle.fault_lines.specs.Line.{sameHeading};
 ghost use Rattle.file_part.specs.Part.{partOf};
+ghost use Rattle.fault_row.specs.Row.{rowAt};
 ghost use Rattle.fault_merge.specs.Hash.{hashOf};
 ghost use Rattle.fault_merge.specs.Rows.{headingAt, Rows};
 ghost use Rattle.fault_merge.specs.Merged.{leadIn, Hashes, Merged, leaders};
-ghost use Rattle.fault_merge.specs.Work.{Opened, Added};
+ghost use Rattle.fault_merge.specs.Work.{Opened, Added, SameRow};
+use crate::recall::recalled;
+use crate::recall::remember;
+use crate::recall::slot_of;
 use crate::same::same_heading;
 use crate::same::text_hash;
 use fault_row::row::row_at;
@@ -76,28 +80,64 @@ fn add(work: &mut [u32], lead: usize, count: u32)
     work[at + 3] = faults;
 }
 
-// Fault i joins its line.
-fn join(work: &mut [u32], file: &[u8], cells: &[u32], numbers: &[f64], i: usize)
-    requires { ⌜ Rows (now file) (now cells) (now numbers) (i + 1) ⌝ ∗ ⌜ 4 * i + 4 ≤ length (now work) ⌝ }
+// The hash of a fault's text, and the lowest fault of its line.
+struct Place {
+    hash: u32,
+    lead: usize,
+}
+
+// Those of fault i: of a lower one whose row is the same, where it is known.
+fn place_of(
+    work: &[u32],
+    file: &[u8],
+    cells: &[u32],
+    numbers: &[f64],
+    i: usize,
+    known: usize,
+) -> Place
+    requires { ⌜ Rows (now file) (now cells) (now numbers) (i + 1) ⌝ ∗ ⌜ 4 * i + 4 ≤ length (now work) ⌝ ∗ ⌜ Merged (partOf (now file)) (now cells) (now numbers) (now work) i ⌝ }
+    requires { ⌜ (known < i → SameRow (rowAt (now cells) (now numbers) known) (rowAt (now cells) (now numbers) i)) ⌝ }
+    ensures { λ r. ⌜ r .hash ≡ hashOf (headingAt (partOf (now (file .entry))) (now (cells .entry)) (now (numbers .entry)) i .text) ⌝ ∗ ⌜ r .lead ≡ leadIn (partOf (now (file .entry))) (now (cells .entry)) (now (numbers .entry)) i ⌝ }
+{
+    if known < i {
+        return Place {
+            hash: work[4 * known],
+            lead: cell(work, 4 * known + 1),
+        };
+    }
+    let hash = text_hash(file, row_at(cells, numbers, i));
+    Place {
+        hash: hash,
+        lead: lead_of(work, file, cells, numbers, i, hash),
+    }
+}
+
+// Fault i joins its line. The cells of the faults end before number `end`.
+fn join(work: &mut [u32], file: &[u8], cells: &[u32], numbers: &[f64], i: usize, end: usize)
+    requires { ⌜ Rows (now file) (now cells) (now numbers) (i + 1) ⌝ ∗ ⌜ 4 * i + 4 ≤ end ⌝ ∗ ⌜ end ≤ length (now work) ⌝ }
     requires { ⌜ Merged (partOf (now file)) (now cells) (now numbers) (now work) i ⌝ }
     ensures { λ r. ⌜ Merged (partOf (now (file .entry))) (now (cells .entry)) (now (numbers .entry)) (now (work .exit)) (i + 1) ⌝ ∗ ⌜ length (now (work .exit)) ≡ length (now (work .entry)) ⌝ }
 {
     let row = row_at(cells, numbers, i);
     let count = row.count;
-    let hash = text_hash(file, row);
-    let lead = lead_of(work, file, cells, numbers, i, hash);
-    put_cells(work, i, hash, lead as u32);
+    let slot = slot_of(row, end, work.len());
+    let known = recalled(work, cells, numbers, slot, i);
+    let place = place_of(work, file, cells, numbers, i, known);
+    let lead = place.lead;
+    put_cells(work, i, place.hash, lead as u32);
     add(work, lead, count);
+    remember(work, end, slot, i);
 }
 
-// The lines of n faults.
+// The lines of n faults. The cells past theirs may change.
 pub fn merge(work: &mut [u32], file: &[u8], cells: &[u32], numbers: &[f64], n: usize)
     requires { ⌜ Rows (now file) (now cells) (now numbers) n ⌝ ∗ ⌜ 4 * n ≤ length (now work) ⌝ }
     ensures { λ r. ⌜ Merged (partOf (now (file .entry))) (now (cells .entry)) (now (numbers .entry)) (now (work .exit)) n ⌝ ∗ ⌜ length (now (work .exit)) ≡ length (now (work .entry)) ⌝ }
 {
+    let end = 4 * n;
     let mut i: usize = 0;
     while i < n {
-        join(work, file, cells, numbers, i);
+        join(work, file, cells, numbers, i, end);
         i += 1;
     }
 }

@@ -9,6 +9,7 @@ use lib.ListN.{length, length-append, length-take}
 use lib.Ieee.{Float}
 use Rattle.num_text.specs.Put.{bytes}
 use Rattle.num_text.specs.Number.{digits, width, numeral, afterPoint, trim, thousandths}
+use Rattle.num_text.specs.Decimal.{decimalText}
 use Rattle.num_text.proofs.NumberLaws.{length-digits, length-numeral, width-le, fraction-front}
 use Rattle.num_text.proofs.DecimalLaws.{decimalText-length}
 use Rattle.file_job.specs.declared.Process.{Process}
@@ -16,19 +17,19 @@ use Rattle.file_job.specs.declared.Process.the-variants.{CncMachining, SheetMet
 use Rattle.file_part.specs.Part.{Part, partOf}
 use Rattle.solid_faces.specs.Faces.{Checked}
 use Rattle.fault_row.specs.declared.row.FaultRow.{FaultRow}
-use Rattle.fault_text.specs.Kind.{thinWall, smallHole, deepHoleMax, deepHoleStandard, tightInsideRadius, deepInsideCorner, sharpInsideCorner, noMaterial, material, notOneThickness, tightBend, shortFlange, sheetSmallHole, holeNearBend, holeNearEdge, thinnerThanALayer, fewLayers, thinnerThanTheNozzle, printThinWall, printSmallHole, overhang, enclosedHollowSla, enclosedHollowSls}
+use Rattle.fault_text.specs.Kind.{thinWall, smallHole, deepHoleMax, deepHoleStandard, tightInsideRadius, deepInsideCorner, sharpInsideCorner, noMaterial, material, notOneThickness, tightBend, shortFlange, sheetSmallHole, holeNearBend, holeNearEdge, notClosed, thinnerThanALayer, fewLayers, thinnerThanTheNozzle, printThinWall, printSmallHole, overhang, enclosedHollowSla, enclosedHollowSls}
 use Rattle.fault_text.specs.Job.{minWall, nameOr, workName}
-use Rattle.fault_text.specs.Text.{mm}
+use Rattle.fault_text.specs.Text.{mmPlaces, mm}
 use Rattle.fault_text.specs.Machining.{minDrill, minMillRadius, thinWallText, smallHoleText, deepHoleMaxText, deepHoleStandardText, tightInsideRadiusText, deepInsideCornerText, sharpInsideCornerText, machiningText}
 use Rattle.fault_text.specs.Sheet.{sheetName, ratioText, bendNeed, holeTooCloseText, noMaterialText, materialText, notOneThicknessText, tightBendText, shortFlangeText, sheetSmallHoleText, holeNearBendText, holeNearEdgeText, sheetText}
-use Rattle.fault_text.specs.Printing.{labelOf, twoLayers, limitOf, floorText, thinnerThanALayerText, fewLayersText, thinnerThanTheNozzleText, printThinWallText, printSmallHoleText, overhangText, enclosedHollowSlaText, enclosedHollowSlsText, printingText}
+use Rattle.fault_text.specs.Printing.{labelOf, twoLayers, limitOf, notClosedText, floorText, thinnerThanALayerText, fewLayersText, thinnerThanTheNozzleText, printThinWallText, printSmallHoleText, overhangText, enclosedHollowSlaText, enclosedHollowSlsText, printingText}
 use Rattle.fault_text.specs.Meaning.{textOf}
 use Rattle.fault_text.proofs.JobLaws.{name-short, ratio-to}
 
 -- ---- a decimal has at most 23 bytes, a name at most 40
 mm-short : (x : Float) → length (mm x) ≤ 26
 unfolding mm
-mm-short x = simp length-append (omega (arith, decimalText-length x 2))
+mm-short x = simp length-append (omega (arith, decimalText-length x (mmPlaces x)))
 
 name-or-short : (t : Part) (other : List ℕ) → length (t .name) ≤ 40 → length other ≤ 40 → length (nameOr t other) ≤ 40
 unfolding nameOr
@@ -134,6 +135,10 @@ label-short Fdm = omega arith
 label-short Sla = omega arith
 label-short Sls = omega arith
 
+not-closed-short : (x : Float) → length (notClosedText (decimalText x 0)) ≤ 255
+unfolding notClosedText
+not-closed-short x = simp length-append (omega (arith, decimalText-length x 0))
+
 thinner-than-a-layer-short : (x layer : Float) → length (thinnerThanALayerText x layer) ≤ 255
 unfolding thinnerThanALayerText floorText
 thinner-than-a-layer-short x layer = simp length-append (omega (arith, mm-short x, mm-short layer))
@@ -198,14 +203,15 @@ sheet-short t row h r =
 printing-short : (t : Part) (row : FaultRow) → length (printingText t row) ≤ 255
 unfolding printingText
 printing-short t row =
-    either (eqb (row .kind) thinnerThanALayer) _ _ (thinner-than-a-layer-short (row .x) (t .job .print .layer))
+    either (eqb (row .kind) notClosed) _ _ (not-closed-short (row .x))
+    (either (eqb (row .kind) thinnerThanALayer) _ _ (thinner-than-a-layer-short (row .x) (t .job .print .layer))
     (either (eqb (row .kind) fewLayers) _ _ (few-layers-short (row .x) (row .y) (t .job .print .layer))
     (either (eqb (row .kind) thinnerThanTheNozzle) _ _ (thinner-than-the-nozzle-short (row .x) (t .job .print .nozzle))
     (either (eqb (row .kind) printThinWall) _ _ (print-thin-wall-short (t .job .process) (row .x) (t .job .print .«min_wall»))
     (either (eqb (row .kind) printSmallHole) _ _ (print-small-hole-short (row .x) (t .job .print .«min_hole»))
     (either (eqb (row .kind) overhang) _ _ (overhang-short (row .x) (t .job .print .overhang))
     (either (eqb (row .kind) enclosedHollowSla) _ _ (enclosed-hollow-sla-short (row .x))
-    (either (eqb (row .kind) enclosedHollowSls) _ _ (enclosed-hollow-sls-short (row .x)) (omega arith))))))))
+    (either (eqb (row .kind) enclosedHollowSls) _ _ (enclosed-hollow-sls-short (row .x)) (omega arith)))))))))
 
 pub text-short : (t : Part) (row : FaultRow) → length (t .name) ≤ 40 → t .job .material .«bend_ratio» ≤ 100000 → length (textOf t row) ≤ 255
 unfolding textOf

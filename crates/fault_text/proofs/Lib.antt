@@ -7,6 +7,9 @@
 -- SettingsLaws: what printing takes from the job of an accepted file
 --   settings-good                       its ranges
 --   layer-accepted, two-layers-accepted, nozzle-accepted, print-wall-accepted, print-hole-accepted, limit-accepted    numbers that are printed
+-- MmLaws: a length's text
+--   places-below, places-from           its places
+--   mm-accepted                         a length that the decimal writer takes with two places is taken as it is written
 -- TextLaws: the text of each kind
 --   text-thin-wall, .., machining-none, sheet-none, printing-none       by kind
 --   text-machining, text-sheet, text-printing                           by process
@@ -19,6 +22,7 @@
 --   face-there                          a good row's a is a face, but for hollows
 pub mod JobLaws
 pub mod SettingsLaws
+pub mod MmLaws
 pub mod TextLaws
 pub mod LengthLaws
 pub mod MeaningLaws

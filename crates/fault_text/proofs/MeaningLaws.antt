@@ -20,6 +20,7 @@ use Rattle.fault_text.specs.Kind.{thinWall, smallHole, deepHoleMax, deep
 use Rattle.fault_text.specs.Job.{minWall}
 use Rattle.fault_text.specs.Machining.{minDrill, minMillRadius, thinWallFault, smallHoleFault, deepHoleMaxFault, deepHoleStandardFault, tightInsideRadiusFault, deepInsideCornerFault, sharpInsideCornerFault, machiningText, machiningPrinted}
 use Rattle.fault_text.specs.Meaning.{textOf, isOfTwo, isOfOne, facesOfRow, faultOf, printedOf, placesOf, GoodRow}
+use Rattle.fault_text.proofs.MmLaws.{mm-accepted}
 
 -- ---- the limits that texts print
 drill-accepted : accepted minDrill 2 ≡ true
@@ -66,16 +67,16 @@ module _ (t : Part) where
   -- ---- the numbers that each kind prints are accepted
   pub thin-wall-printed : (n f g : ℕ) (x : Float) → accepted x 2 ≡ true → accepted (minWall t) 2 ≡ true → printedOf t (row thinWall n 1 f g 0 x zero zero) ≡ true
   unfolding printedOf machiningPrinted
-  thin-wall-printed n f g x a b = rw (a, b)
+  thin-wall-printed n f g x a b = rw (mm-accepted _ a, mm-accepted _ b)
 
   pub small-hole-printed : (f : ℕ) (d : Float) → accepted d 2 ≡ true → printedOf t (row smallHole 1 1 f 0 0 d zero zero) ≡ true
   unfolding printedOf machiningPrinted
-  small-hole-printed f d a = rw (a, drill-accepted)
+  small-hole-printed f d a = rw (mm-accepted _ a, mm-accepted _ drill-accepted)
 
   pub deep-hole-max-printed : (f : ℕ) (ratio d length : Float) → accepted ratio 1 ≡ true → accepted d 2 ≡ true → accepted length 2 ≡ true →
       printedOf t (row deepHoleMax 1 1 f 0 0 ratio d length) ≡ true
   unfolding printedOf machiningPrinted
-  deep-hole-max-printed f ratio d length a b c = rw (a, b, c)
+  deep-hole-max-printed f ratio d length a b c = rw (a, mm-accepted _ b, mm-accepted _ c)
 
   pub deep-hole-standard-printed : (f : ℕ) (ratio : Float) → accepted ratio 1 ≡ true → printedOf t (row deepHoleStandard 2 1 f 0 0 ratio zero zero) ≡ true
   unfolding printedOf machiningPrinted
@@ -83,17 +84,17 @@ module _ (t : Part) where
 
   pub tight-inside-radius-printed : (f : ℕ) (radius : Float) → accepted radius 2 ≡ true → printedOf t (row tightInsideRadius 1 1 f 0 0 radius zero zero) ≡ true
   unfolding printedOf machiningPrinted
-  tight-inside-radius-printed f radius a = rw (a, mill-accepted)
+  tight-inside-radius-printed f radius a = rw (mm-accepted _ a, mm-accepted _ mill-accepted)
 
   pub deep-inside-corner-printed : (f : ℕ) (ratio radius length : Float) → accepted ratio 1 ≡ true → accepted radius 2 ≡ true → accepted length 2 ≡ true →
       printedOf t (row deepInsideCorner 1 1 f 0 0 ratio radius length) ≡ true
   unfolding printedOf machiningPrinted
-  deep-inside-corner-printed f ratio radius length a b c = rw (a, b, c)
+  deep-inside-corner-printed f ratio radius length a b c = rw (a, mm-accepted _ b, mm-accepted _ c)
 
   pub sharp-inside-corner-printed : (f g : ℕ) (length fillet : Float) → accepted length 2 ≡ true → accepted fillet 2 ≡ true →
       printedOf t (row sharpInsideCorner 1 1 f g 0 length fillet zero) ≡ true
   unfolding printedOf machiningPrinted
-  sharp-inside-corner-printed f g length fillet a b = rw (a, b)
+  sharp-inside-corner-printed f g length fillet a b = rw (mm-accepted _ a, mm-accepted _ b)
 
   -- ---- good rows
   -- a face is a place for every kind

@@ -12,6 +12,7 @@ use Rattle.fault_text.specs.Kind.{noMaterial, material, notOneThickness,
 use Rattle.fault_text.specs.Sheet.{noMaterialFault, materialFault, notOneThicknessFault, tightBendFault, shortFlangeFault, sheetSmallHoleFault, holeNearBendFault, holeNearEdgeFault, sheetText, sheetPrinted}
 use Rattle.fault_text.specs.Many.{offFaces, manyFaces}
 use Rattle.fault_text.specs.Meaning.{textOf, isOfTwo, isOfOne, facesOfRow, faultOf, printedOf}
+use Rattle.fault_text.proofs.MmLaws.{mm-accepted}
 
 module _ (t : Part) where
   -- ---- the faults of rows
@@ -59,24 +60,24 @@ module _ (t : Part) where
 
   pub not-one-thickness-printed : (lo hi thickness : Float) → accepted lo 2 ≡ true → accepted hi 2 ≡ true → accepted thickness 2 ≡ true → printedOf t (row notOneThickness 0 1 0 0 0 lo hi thickness) ≡ true
   unfolding printedOf sheetPrinted
-  not-one-thickness-printed lo hi thickness a b c = rw (a, b, c)
+  not-one-thickness-printed lo hi thickness a b c = rw (mm-accepted _ a, mm-accepted _ b, mm-accepted _ c)
 
   pub tight-bend-printed : (f g : ℕ) (radius minRadius : Float) → accepted radius 2 ≡ true → accepted minRadius 2 ≡ true → printedOf t (row tightBend 0 1 f g 0 radius minRadius zero) ≡ true
   unfolding printedOf sheetPrinted
-  tight-bend-printed f g radius minRadius a b = rw (a, b)
+  tight-bend-printed f g radius minRadius a b = rw (mm-accepted _ a, mm-accepted _ b)
 
   pub short-flange-printed : (f g : ℕ) (length minFlange : Float) → accepted length 2 ≡ true → accepted minFlange 2 ≡ true → printedOf t (row shortFlange 1 1 f g 0 length minFlange zero) ≡ true
   unfolding printedOf sheetPrinted
-  short-flange-printed f g length minFlange a b = rw (a, b)
+  short-flange-printed f g length minFlange a b = rw (mm-accepted _ a, mm-accepted _ b)
 
   pub sheet-small-hole-printed : (f : ℕ) (d minHole : Float) → accepted d 2 ≡ true → accepted minHole 2 ≡ true → printedOf t (row sheetSmallHole 1 1 f 0 0 d minHole zero) ≡ true
   unfolding printedOf sheetPrinted
-  sheet-small-hole-printed f d minHole a b = rw (a, b)
+  sheet-small-hole-printed f d minHole a b = rw (mm-accepted _ a, mm-accepted _ b)
 
   pub hole-near-bend-printed : (f g : ℕ) (gap need : Float) → accepted gap 2 ≡ true → accepted need 2 ≡ true → printedOf t (row holeNearBend 1 1 f g 0 gap need zero) ≡ true
   unfolding printedOf sheetPrinted
-  hole-near-bend-printed f g gap need a b = rw (a, b)
+  hole-near-bend-printed f g gap need a b = rw (mm-accepted _ a, mm-accepted _ b)
 
   pub hole-near-edge-printed : (f g : ℕ) (gap need : Float) → accepted gap 2 ≡ true → accepted need 2 ≡ true → printedOf t (row holeNearEdge 1 1 f g 0 gap need zero) ≡ true
   unfolding printedOf sheetPrinted
-  hole-near-edge-printed f g gap need a b = rw (a, b)
+  hole-near-edge-printed f g gap need a b = rw (mm-accepted _ a, mm-accepted _ b)

@@ -3,12 +3,13 @@ use mathlib.Core.Path.{_≡_}
 use mathlib.Core.List.{[]}
 use Prim.Native.Nat.{_≤_, _<_}
 use borrow.Author.Tests.{le-leb, lt-leb, ne-eqb}
+use Rattle.num_text.specs.Decimal.{decimalText}
 use Rattle.file_part.specs.Part.{Part}
 use Rattle.fault_row.specs.declared.row.FaultRow.{FaultRow}
-use Rattle.fault_text.specs.Kind.{thinWall, smallHole, deepHoleMax, deepHoleStandard, tightInsideRadius, deepInsideCorner, sharpInsideCorner, noMaterial, material, notOneThickness, tightBend, shortFlange, sheetSmallHole, holeNearBend, holeNearEdge, thinnerThanALayer, fewLayers, thinnerThanTheNozzle, printThinWall, printSmallHole, overhang, enclosedHollowSla, enclosedHollowSls}
+use Rattle.fault_text.specs.Kind.{thinWall, smallHole, deepHoleMax, deepHoleStandard, tightInsideRadius, deepInsideCorner, sharpInsideCorner, noMaterial, material, notOneThickness, tightBend, shortFlange, sheetSmallHole, holeNearBend, holeNearEdge, notClosed, thinnerThanALayer, fewLayers, thinnerThanTheNozzle, printThinWall, printSmallHole, overhang, enclosedHollowSla, enclosedHollowSls}
 use Rattle.fault_text.specs.Machining.{thinWallText, smallHoleText, deepHoleMaxText, deepHoleStandardText, tightInsideRadiusText, deepInsideCornerText, sharpInsideCornerText, machiningText}
 use Rattle.fault_text.specs.Sheet.{noMaterialText, materialText, notOneThicknessText, tightBendText, shortFlangeText, sheetSmallHoleText, holeNearBendText, holeNearEdgeText, sheetText}
-use Rattle.fault_text.specs.Printing.{thinnerThanALayerText, fewLayersText, thinnerThanTheNozzleText, printThinWallText, printSmallHoleText, overhangText, enclosedHollowSlaText, enclosedHollowSlsText, printingText}
+use Rattle.fault_text.specs.Printing.{notClosedText, thinnerThanALayerText, fewLayersText, thinnerThanTheNozzleText, printThinWallText, printSmallHoleText, overhangText, enclosedHollowSlaText, enclosedHollowSlsText, printingText}
 use Rattle.fault_text.specs.Meaning.{textOf}
 
 -- ---- machining
@@ -88,6 +89,10 @@ module _ (t : Part) (row : FaultRow) where
 
 -- ---- printing
 module _ (t : Part) (row : FaultRow) where
+  pub text-not-closed : row .kind ≡ notClosed → notClosedText (decimalText (row .x) 0) ≡ printingText t row
+  unfolding printingText
+  text-not-closed e = rw e
+
   pub text-thinner-than-a-layer : row .kind ≡ thinnerThanALayer → thinnerThanALayerText (row .x) (t .job .print .layer) ≡ printingText t row
   unfolding printingText
   text-thinner-than-a-layer e = rw e
@@ -120,10 +125,10 @@ module _ (t : Part) (row : FaultRow) where
   unfolding printingText
   text-enclosed-hollow-sls e = rw e
 
-  pub printing-none : (row .kind ≡ thinnerThanALayer → ⊥) → (row .kind ≡ fewLayers → ⊥) → (row .kind ≡ thinnerThanTheNozzle → ⊥) → (row .kind ≡ printThinWall → ⊥) → (row .kind ≡ printSmallHole → ⊥) → (row .kind ≡ overhang → ⊥) → (row .kind ≡ enclosedHollowSla → ⊥) → (row .kind ≡ enclosedHollowSls → ⊥) → [] ≡ printingText t row
+  pub printing-none : (row .kind ≡ notClosed → ⊥) → (row .kind ≡ thinnerThanALayer → ⊥) → (row .kind ≡ fewLayers → ⊥) → (row .kind ≡ thinnerThanTheNozzle → ⊥) → (row .kind ≡ printThinWall → ⊥) → (row .kind ≡ printSmallHole → ⊥) → (row .kind ≡ overhang → ⊥) → (row .kind ≡ enclosedHollowSla → ⊥) → (row .kind ≡ enclosedHollowSls → ⊥) → [] ≡ printingText t row
   unfolding printingText
-  printing-none a b c d e f g h =
-      rw (ne-eqb _ _ a, ne-eqb _ _ b, ne-eqb _ _ c, ne-eqb _ _ d, ne-eqb _ _ e, ne-eqb _ _ f, ne-eqb _ _ g, ne-eqb _ _ h)
+  printing-none a b c d e f g h i =
+      rw (ne-eqb _ _ a, ne-eqb _ _ b, ne-eqb _ _ c, ne-eqb _ _ d, ne-eqb _ _ e, ne-eqb _ _ f, ne-eqb _ _ g, ne-eqb _ _ h, ne-eqb _ _ i)
 
 -- ---- by process
 module _ (t : Part) (row : FaultRow) where

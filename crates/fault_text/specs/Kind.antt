@@ -58,7 +58,6 @@ abbrev pub holeNearEdge : ℕ
 holeNearEdge = 15
 
 -- ---- printing
--- document 01 leaves this rule out: the number is kept for it, and has no text
 abbrev pub notClosed : ℕ
 notClosed = 16
 
@@ -89,7 +88,7 @@ enclosedHollowSls = 24
 abbrev pub lastKind : ℕ
 lastKind = 24
 
--- ---- the rule of a kind; for a number that is none, the rule that nothing yields
+-- ---- the rule of a kind; for a number that is none, that of `notClosed`
 unfoldable pub machiningRule : ℕ → Rule
 machiningRule kind =
     cond (eqb kind thinWall) ThinWall

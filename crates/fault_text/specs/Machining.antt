@@ -16,7 +16,7 @@ use Rattle.fault_row.specs.declared.row.FaultRow.{FaultRow}
 use Rattle.fault_row.specs.Fault.{Fault, fault}
 use Rattle.fault_text.specs.Kind.{thinWall, smallHole, deepHoleMax, deepHoleStandard, tightInsideRadius, deepInsideCorner, sharpInsideCorner}
 use Rattle.fault_text.specs.Job.{minWall, workName}
-use Rattle.fault_text.specs.Text.{mm}
+use Rattle.fault_text.specs.Text.{mm, mmAccepted}
 
 -- "MIN_DRILL" and "MIN_MILL_RADIUS": the f64 1.0 and 0.5. "MAX_REACH" prints as 10, "STANDARD_REACH" as 4
 abbrev pub minDrill : Float
@@ -91,10 +91,10 @@ machiningText t row =
 -- the decimal writer takes every number that it prints
 unfoldable pub machiningPrinted : Part → FaultRow → Bool
 machiningPrinted t row =
-    cond (eqb (row .kind) thinWall) (accepted (row .x) 2 && accepted (minWall t) 2)
-    (cond (eqb (row .kind) smallHole) (accepted (row .x) 2 && accepted minDrill 2)
-    (cond (eqb (row .kind) deepHoleMax) (accepted (row .x) 1 && accepted (row .y) 2 && accepted (row .z) 2)
+    cond (eqb (row .kind) thinWall) (mmAccepted (row .x) && mmAccepted (minWall t))
+    (cond (eqb (row .kind) smallHole) (mmAccepted (row .x) && mmAccepted minDrill)
+    (cond (eqb (row .kind) deepHoleMax) (accepted (row .x) 1 && mmAccepted (row .y) && mmAccepted (row .z))
     (cond (eqb (row .kind) deepHoleStandard) (accepted (row .x) 1)
-    (cond (eqb (row .kind) tightInsideRadius) (accepted (row .x) 2 && accepted minMillRadius 2)
-    (cond (eqb (row .kind) deepInsideCorner) (accepted (row .x) 1 && accepted (row .y) 2 && accepted (row .z) 2)
-    (cond (eqb (row .kind) sharpInsideCorner) (accepted (row .x) 2 && accepted (row .y) 2) true))))))
+    (cond (eqb (row .kind) tightInsideRadius) (mmAccepted (row .x) && mmAccepted minMillRadius)
+    (cond (eqb (row .kind) deepInsideCorner) (accepted (row .x) 1 && mmAccepted (row .y) && mmAccepted (row .z))
+    (cond (eqb (row .kind) sharpInsideCorner) (mmAccepted (row .x) && mmAccepted (row .y)) true))))))

@@ -6,7 +6,6 @@ use lib.Dec.{eqb}
 use lib.Ieee.{Float}
 use Rattle.num_text.specs.Put.{bytes}
 use Rattle.num_text.specs.Number.{thousandths}
-use Rattle.num_text.specs.Decimal.{accepted}
 use Rattle.file_part.specs.declared.read.FaceId.{FaceId}
 use Rattle.file_part.specs.Part.{Part}
 use Rattle.solid_ids.specs.Ids.{idOf}
@@ -16,7 +15,7 @@ use Rattle.fault_row.specs.declared.row.FaultRow.{FaultRow}
 use Rattle.fault_row.specs.Fault.{Fault, fault}
 use Rattle.fault_text.specs.Kind.{noMaterial, material, notOneThickness, tightBend, shortFlange, sheetSmallHole, holeNearBend, holeNearEdge}
 use Rattle.fault_text.specs.Job.{nameOr}
-use Rattle.fault_text.specs.Text.{mm}
+use Rattle.fault_text.specs.Text.{mm, mmAccepted}
 
 -- ---- from the job
 -- the material's name, or "this material" where there is none
@@ -55,7 +54,7 @@ unfoldable pub sheetSmallHoleText : Float → Float → List ℕ
 sheetSmallHoleText d minHole =
     bytes "Hole is " ++ (mm d ++ (bytes " across; holes smaller than " ++ (mm minHole ++ bytes " punch poorly and may need drilling.")))
 
--- gap is dfm.rs's `gap.max(0.0)`: "on a negative zero prints 0.00"
+-- gap is dfm.rs's `gap.max(0.0)`: "a gap of zero, of either sign, now prints 0.000" (document 02, item 2)
 unfoldable pub holeTooCloseText : List ℕ → Float → Float → List ℕ
 holeTooCloseText what gap need =
     bytes "Hole edge is " ++ (mm gap ++ (bytes " from " ++ (what ++ (bytes "; keep at least " ++ (mm need ++ bytes " so it does not distort.")))))
@@ -110,6 +109,6 @@ sheetText t row =
 -- the decimal writer takes every number that it prints: three, none or two
 unfoldable pub sheetPrinted : FaultRow → Bool
 sheetPrinted row =
-    cond (eqb (row .kind) notOneThickness) (accepted (row .x) 2 && accepted (row .y) 2 && accepted (row .z) 2)
+    cond (eqb (row .kind) notOneThickness) (mmAccepted (row .x) && mmAccepted (row .y) && mmAccepted (row .z))
     (cond (eqb (row .kind) noMaterial) true
-    (cond (eqb (row .kind) material) true (accepted (row .x) 2 && accepted (row .y) 2)))
+    (cond (eqb (row .kind) material) true (mmAccepted (row .x) && mmAccepted (row .y))))

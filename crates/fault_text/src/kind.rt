@@ -49,7 +49,7 @@ pub const HOLE_NEAR_BEND: u32 = 14;
 pub const HOLE_NEAR_EDGE: u32 = 15;
 
 // ---- printing
-// Kept for the rule that document 01 leaves out.
+// x: how many keys one side alone has. Of no face.
 pub const NOT_CLOSED: u32 = 16;
 
 // x: the thickness between faces a and b.

@@ -1,13 +1,15 @@
 // The messages of printing, as dfm.rs's `printing` has them.
 ghost use mathlib.Core.Path.{_≡_};
 ghost use Rattle.num_text.specs.Put.{Put};
+ghost use Rattle.num_text.specs.Decimal.{decimalText};
 ghost use Rattle.file_part.specs.Part.{partOf};
 ghost use Rattle.solid_faces.specs.Faces.{Checked};
-ghost use Rattle.fault_text.specs.Printing.{labelOf, limitOf, floorText, thinnerThanALayerText, fewLayersText, thinnerThanTheNozzleText, printThinWallText, printSmallHoleText, overhangText, enclosedHollowSlaText, enclosedHollowSlsText, printingText};
+ghost use Rattle.fault_text.specs.Printing.{labelOf, limitOf, notClosedText, floorText, thinnerThanALayerText, fewLayersText, thinnerThanTheNozzleText, printThinWallText, printSmallHoleText, overhangText, enclosedHollowSlaText, enclosedHollowSlsText, printingText};
 use crate::job::job_of;
 use crate::kind::ENCLOSED_HOLLOW_SLA;
 use crate::kind::ENCLOSED_HOLLOW_SLS;
 use crate::kind::FEW_LAYERS;
+use crate::kind::NOT_CLOSED;
 use crate::kind::OVERHANG;
 use crate::kind::PRINT_SMALL_HOLE;
 use crate::kind::PRINT_THIN_WALL;
@@ -37,6 +39,19 @@ fn overhang_limit(tenths: u32) -> f64
     ensures { λ r. ⌜ r ≡ limitOf tenths ⌝ }
 {
     tenths as f64 / 10.0
+}
+
+// So many open edges, a whole number.
+fn put_not_closed(out: &mut [u8], at: usize, edges: f64) -> usize
+    ensures { λ r. ⌜ Put (now (out .entry)) at (notClosedText (decimalText edges 0)) (now (out .exit)) r ⌝ }
+{
+    let a = put_bytes(out, at, b"The body has ");
+    let b = put_decimal(out, a, edges, 0);
+    put_bytes(
+        out,
+        b,
+        b" open edges; a slicer needs a closed solid to tell inside from outside.",
+    )
 }
 
 // The start of the next two.
@@ -159,6 +174,7 @@ pub(crate) fn put_printing(out: &mut [u8], at: usize, file: &[u8], row: FaultRow
     let process = job.process;
     let kind = row.kind;
     match kind {
+        NOT_CLOSED => put_not_closed(out, at, row.x),
         THINNER_THAN_A_LAYER => put_thinner_than_a_layer(out, at, row.x, job.print.layer),
         FEW_LAYERS => put_few_layers(out, at, row.x, row.y, job.print.layer),
         THINNER_THAN_THE_NOZZLE => put_thinner_than_the_nozzle(out, at, row.x, job.print.nozzle),

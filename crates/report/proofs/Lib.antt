@@ -3,6 +3,7 @@
 -- LineLaws: the lines that the code writes
 --   low-severity, front-same, count-is      the parts of a line
 --   begins, not-first, other-rank, the-line whether a fault begins one of a rank
+--   noted-none, noted-more, unnoted, rank-low, rank-absent      ranks that no fault has
 --   rank-none, rank-more, rank-all, ranks-none, ranks-more, ranks-all       one line after the other
 pub mod LineLaws
 pub mod ReportLaws

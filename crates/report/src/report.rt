@@ -1,6 +1,5 @@
 // The whole report.
-ghost use mathlib.Core.Path.{_≡_};
-ghost use Prim.Native.Nat.{_<_};
+ghost use Prim.Native.Nat.{_+_, _*_, _≤_};
 ghost use lib.ListN.{length};
 ghost use Rattle.num_text.specs.Put.{Put};
 ghost use Rattle.file_part.specs.Part.{partOf};
@@ -14,6 +13,7 @@ use crate::line::put_lines;
 use fault_merge::merge::line_count;
 use fault_merge::merge::merge;
 use fault_row::summary::Summary;
+use report_faces::links::put_links;
 use report_faces::marks::Listing;
 
 // How a report ends: written with so many bytes, or not at all.
@@ -52,7 +52,33 @@ fn put_report(
     )
 }
 
-// The report of a part whose faults stand as rows: measured first, and written if it fits.
+// The report of a part whose faults stand as rows: measured first, and written if it fits. The work slice has four cells for each fault, and then one
+// for each polygon.
+fn write_with(
+    work: &mut [u32],
+    report: &mut [u8],
+    file: &[u8],
+    words: &[u32],
+    given: Listing,
+    cells: &[u32],
+    numbers: &[f64],
+    summary: Summary,
+) -> Written
+    requires { ⌜ Kept (now file) (now words) given (now cells) (now numbers) ⌝ ∗ ⌜ 4 * given .faults + given .at .polygons ≤ length (now work) ⌝ }
+    ensures { λ r. ⌜ Reported (reportText summary (linesOf (faultsTo (partOf (now (file .entry))) (now (cells .entry)) (now (numbers .entry)) (given .faults)))) (now (report .entry)) (now (report .exit)) r ⌝ }
+{
+    merge(work, file, cells, numbers, given.faults);
+    put_links(work, 4 * given.faults, words, given.at);
+    let mut none = [0u8; 0];
+    let length = put_report(&mut none, file, words, given, work, cells, numbers, summary);
+    if report.len() < length {
+        return Written::TooLong;
+    }
+    put_report(report, file, words, given, work, cells, numbers, summary);
+    Written::Bytes(length)
+}
+
+// The report of a part whose faults stand as rows. A small part is spared the cells of a large one.
 pub fn write_report(
     report: &mut [u8],
     file: &[u8],
@@ -65,22 +91,29 @@ pub fn write_report(
     requires { ⌜ Kept (now file) (now words) given (now cells) (now numbers) ⌝ }
     ensures { λ r. ⌜ Reported (reportText summary (linesOf (faultsTo (partOf (now (file .entry))) (now (cells .entry)) (now (numbers .entry)) (given .faults)))) (now (report .entry)) (now (report .exit)) r ⌝ }
 {
-    let mut work = [0u32; 8192];
-    merge(&mut work, file, cells, numbers, given.faults);
-    let mut none = [0u8; 0];
-    let length = put_report(
-        &mut none,
+    let need = 4 * given.faults + given.at.polygons;
+    if need <= 256 {
+        let mut work = [0u32; 256];
+        return write_with(
+            &mut work,
+            report,
+            file,
+            words,
+            given,
+            cells,
+            numbers,
+            summary,
+        );
+    }
+    let mut work = [0u32; 12_288];
+    write_with(
+        &mut work,
+        report,
         file,
         words,
         given,
-        &work,
         cells,
         numbers,
         summary,
-    );
-    if report.len() < length {
-        return Written::TooLong;
-    }
-    put_report(report, file, words, given, &work, cells, numbers, summary);
-    Written::Bytes(length)
+    )
 }

@@ -2,6 +2,7 @@
 -- TextLaws     ids as text, one after another
 -- SomeLaws     whether some number below n passes a test
 -- SearchLaws   the next wanted place of a row of cells
+-- LinkLaws     the polygons of each body as a chain
 -- MarkLaws     marks, one face after another
 -- CellLaws     the marks of a row and of a line, by the cells of the scratch
 -- IdsLaws      the ids of the faces that pass a test, by rank
@@ -10,6 +11,7 @@
 pub mod TextLaws
 pub mod SomeLaws
 pub mod SearchLaws
+pub mod LinkLaws
 pub mod MarkLaws
 pub mod CellLaws
 pub mod IdsLaws

@@ -19,6 +19,7 @@ use Rattle.fault_row.specs.Row.{rowAt}
 use Rattle.fault_text.specs.Kind.{notOneThickness, overhang, enclosedHollowSla, enclosedHollowSls}
 use Rattle.fault_merge.specs.Rows.{Rows}
 use Rattle.fault_merge.specs.Merged.{Merged}
+use Rattle.report_faces.specs.Links.{Links}
 use Rattle.report_faces.specs.declared.marks.Listing.{Listing}
 
 -- the scratch tells the faces of a row that has many: the marks that its rule left, or the bodies
@@ -37,8 +38,9 @@ pub record Kept (s words : List ℕ) (given : Listing) (cells : List ℕ) (numbe
   pub rows : Rows s cells numbers (given .faults)
   pub told : (k : ℕ) → k < given .faults → Told (partOf s) (given .at) words (rowAt cells numbers k)
 
--- and which faults share a line
+-- and which faults share a line; after their cells the links of the bodies' polygons
 pub record Ready (s words : List ℕ) (given : Listing) (work cells : List ℕ) (numbers : List Float) : Type 0 where
   pub kept : Kept s words given cells numbers
   pub long : 4 * given .faults ≤ length work
   pub merged : Merged (partOf s) cells numbers work (given .faults)
+  pub links : Links (given .at) words (4 * given .faults) work

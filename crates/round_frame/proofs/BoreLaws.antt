@@ -1,14 +1,15 @@
 -- The directions of a face in the cells, one vertex and one polygon more each.
 use mathlib.Core.Path.{_≡_, refl, sym, ap, _∙_, subst}
-use mathlib.Core.Bool.{true}
+use mathlib.Core.Bool.{true, false}
 use mathlib.Core.List.{List, [], _∷_, _++_, append-nil, append-assoc}
 use Prim.Native.Nat.{ℕ, zero, suc, _+_, _-_, _*_, _≤_, _<_}
 use native.Mathlib.Omega.{arith}
 use native.Mathlib.Numerals.{add-one}
 use native.Mathlib.Nat.{le-antisymm, add-zero}
-use lib.ListN.{length, getD, set, length-set}
+use lib.ListN as list
+use lib.ListN.{getD, set, length-set}
 use lib.Seq.{getD-set-same, getD-set-other}
-use lib.Ieee.{Float, nan}
+use lib.Ieee.{Float, nan, lt}
 use Rattle.math.specs.declared.Vec3.{Vec3}
 use Rattle.math.specs.Size.{VecWithin}
 use Rattle.math.specs.Vector.{minus, dotOf}
@@ -25,8 +26,9 @@ use Rattle.solid_faces.specs.Faces.{isNew, faceNumber, polygonCorner}
 use Rattle.solid_faces.specs.Kept.{Chain}
 use Rattle.solid_faces.proofs.ChainLaws.{OnFace, on-rises}
 use Rattle.round_hole.specs.declared.direction.Direction.{Direction}
-use Rattle.round_hole.specs.Direction.{directionOf}
+use Rattle.round_hole.specs.Direction.{e-6, lengthOf, directionOf, offsetDirections}
 use Rattle.round_hole.specs.Cells.{Packable, packOf, directionsIn}
+use Rattle.round_hole.proofs.DirectionLaws.{directions-short, directions-one}
 use Rattle.round_hole.proofs.RoundLaws.{directions-packed, directions-same}
 use Rattle.round_frame.specs.declared.frame.Frame.{Frame}
 use Rattle.round_frame.specs.Frame.{vertexDirections, runDirections}
@@ -36,20 +38,37 @@ use Rattle.round_frame.proofs.RunLaws.{run-starts, run-ends, run-inside
 use Rattle.round_frame.proofs.ChoiceLaws.{to-all, directions-none, directions-next}
 
 -- ---- one direction more, in the next cell
-one-more : (cells : List Float) (m : ℕ) (d : Direction) (x : Float) → m < length cells → Packable d → x ≡ packOf d → directionsIn (m + 1) (set cells m x) ≡ directionsIn m cells ++ (d ∷ [])
+one-more : (cells : List Float) (m : ℕ) (d : Direction) (x : Float) → m < list.length cells → Packable d → x ≡ packOf d → directionsIn (m + 1) (set cells m x) ≡ directionsIn m cells ++ (d ∷ [])
 one-more cells m d x room ok is =
     directions-packed (set cells m x) m d ok (getD-set-same cells m x nan room ∙ is)
     ∙ ap (λ (l : List Direction). l ++ (d ∷ [])) (directions-same m (set cells m x) cells (λ i low. getD-set-other cells m i x nan (λ at. omega (arith, at, low))))
 
-pub vertex-put : (cells : List Float) (n : ℕ) (a : Frame) (v : Vec3) (d : Direction) (x : Float) → n < length cells → Packable d →
-    d ≡ directionOf (dotOf (minus v (a .origin)) (a .x)) (dotOf (minus v (a .origin)) (a .y)) → x ≡ packOf d →
-    DirectionsPut cells (set cells n x) (n + 1) (n + 1) (directionsIn n cells ++ vertexDirections a v)
-unfolding vertexDirections
-vertex-put cells n a v d x room ok is packed = record {
-  held = one-more cells n d x room ok packed ∙ ap (λ (y : Direction). directionsIn n cells ++ (y ∷ [])) is;
-  few = omega arith;
-  long = simp length-set;
-}
+-- what a vertex gives, by its offsets and their length: none, or one
+module _ (cells : List Float) (n : ℕ) (a : Frame) (v : Vec3) (x y length : Float) (ex : x ≡ dotOf (minus v (a .origin)) (a .x))
+    (ey : y ≡ dotOf (minus v (a .origin)) (a .y)) (el : length ≡ lengthOf x y) where
+  gives : offsetDirections x y ≡ vertexDirections a v
+  unfolding vertexDirections
+  gives = rw (ex, ey)
+
+  pub vertex-none : lt length e-6 ≡ true → DirectionsPut cells cells (n + 1) n (directionsIn n cells ++ vertexDirections a v)
+  vertex-none near = record {
+    held =
+        sym (append-nil (directionsIn n cells))
+        ∙ ap (λ (l : List Direction). directionsIn n cells ++ l) (sym (directions-short x y length el near) ∙ gives);
+    few = omega arith;
+    long = refl;
+  }
+
+  pub vertex-put : (d : Direction) (c : Float) → lt length e-6 ≡ false → n < list.length cells → Packable d → d ≡ directionOf x y length → c ≡ packOf d →
+      DirectionsPut cells (set cells n c) (n + 1) (n + 1) (directionsIn n cells ++ vertexDirections a v)
+  vertex-put d c far room ok is packed = record {
+    held =
+        one-more cells n d c room ok packed
+        ∙ ap (λ (l : List Direction). directionsIn n cells ++ l)
+        (ap (λ (e : Direction). e ∷ []) is ∙ sym (directions-one x y length el far) ∙ gives);
+    few = omega arith;
+    long = simp length-set;
+  }
 
 -- ---- the corners of a run
 module _ (s : List ℕ) (first : ℕ) (a : Frame) (before : List Float) (n : ℕ) where

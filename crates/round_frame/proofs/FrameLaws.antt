@@ -1,4 +1,5 @@
 -- The sizes of a frame and of the offsets about it, so that the directions of vertices can be packed.
+use mathlib.Core.Path.{_≡_, sym, ap, _∙_, subst}
 use mathlib.Core.Bool.{Bool, true, false, cond}
 use Prim.Native.Nat.{ℕ, _+_, _*_, _^_, _≤_, _<_}
 use native.Mathlib.Nat.{le-refl}
@@ -14,7 +15,8 @@ use Rattle.math.specs.declared.Vec3.{Vec3}
 use Rattle.math.specs.Size.{VecWithin}
 use Rattle.math.specs.Vector.{one, xVec, yVec, minus, dotOf, crossOf, normalizedOf, nine-tenths, perpendicularOf}
 use Rattle.math.specs.Vector as vector
-use Rattle.round_hole.specs.Direction.{directionOf}
+use Rattle.round_hole.specs.declared.direction.Direction.{Direction}
+use Rattle.round_hole.specs.Direction.{e-6, lengthOf, directionOf}
 use Rattle.round_hole.specs.Cells.{Packable}
 use Rattle.round_hole.proofs.DirectionLaws.{direction-packable}
 use Rattle.round_frame.specs.declared.frame.Frame.{Frame}
@@ -125,11 +127,14 @@ offset-within a v h w =
       z-within = sub-within (v .z) (a .origin .z) 10000 10000 20000 (w .z-within) (h .near .z-within) (lit≤ tt) held;
     }
 
--- of a vertex
-pub vertex-packable : (a : Frame) (v : Vec3) → Central a → VecWithin v 10000 →
-    Packable (directionOf (dotOf (minus v (a .origin)) (a .x)) (dotOf (minus v (a .origin)) (a .y)))
-vertex-packable a v h w =
-    let d = offset-within a v h w in
-    direction-packable _ _
-    (dot-bounded (minus v (a .origin)) (a .x) 20000 2 40000 80000 d (h .x-short) (lit≤ tt) (lit≤ tt) (lit≤ tt))
-    (dot-bounded (minus v (a .origin)) (a .y) 20000 8 160000 320000 d (h .y-short) (lit≤ tt) (lit≤ tt) (lit≤ tt))
+-- of a vertex that gives one
+pub vertex-packable : (a : Frame) (v : Vec3) (x y length : Float) (d : Direction) → Central a → VecWithin v 10000 → x ≡ dotOf (minus v (a .origin)) (a .x) →
+    y ≡ dotOf (minus v (a .origin)) (a .y) → length ≡ lengthOf x y → lt length e-6 ≡ false → d ≡ directionOf x y length → Packable d
+vertex-packable a v x y length d h w ex ey el far is =
+    let o = offset-within a v h w in
+    let at-x = dot-bounded (minus v (a .origin)) (a .x) 20000 2 40000 80000 o (h .x-short) (lit≤ tt) (lit≤ tt) (lit≤ tt) in
+    let at-y = dot-bounded (minus v (a .origin)) (a .y) 20000 8 160000 320000 o (h .y-short) (lit≤ tt) (lit≤ tt) (lit≤ tt) in
+    let bx = subst (λ (z : Float). Bounded z 1048576) (sym ex) at-x in
+    let by = subst (λ (z : Float). Bounded z 1048576) (sym ey) at-y in
+    let ok = direction-packable x y bx by (ap (λ (z : Float). lt z e-6) (sym el) ∙ far) in
+    subst Packable (sym (is ∙ ap (directionOf x y) el)) ok

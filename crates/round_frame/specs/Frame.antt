@@ -10,7 +10,7 @@ use Rattle.math.specs.Size.{VecWithin}
 use Rattle.math.specs.Vector.{plus, minus, times, dotOf, crossOf, normalizedOf, perpendicularOf}
 use Rattle.solid_polygon.specs.Polygon.{half}
 use Rattle.round_hole.specs.declared.direction.Direction.{Direction}
-use Rattle.round_hole.specs.Direction.{directionOf}
+use Rattle.round_hole.specs.Direction.{offsetDirections}
 use Rattle.round_frame.specs.declared.frame.Frame.{Frame}
 use Rattle.round_frame.specs.declared.extent.Extent.{Extent}
 use Rattle.round_frame.specs.declared.measure.Measure.{Measure}
@@ -62,10 +62,10 @@ unfoldable pub voteOf : Frame → Vec3 → Vec3 → Float → Float
 voteOf a normal c area = mul binary64 (dotOf normal (normalizedOf (radialOf a c))) area
 
 -- ---- about the axis
--- the directions that a vertex gives, by its "offsets along x and y": today each vertex gives one, (2^20, 0) where it is shorter than 1e-6 mm
--- (document 01, replacement 3)
+-- the directions that a vertex gives, by its "offsets along x and y" (document 01, replacement 3): one, or none where it is "nearer the axis than
+-- 1e-6 mm" (document 02, item 6)
 unfoldable pub vertexDirections : Frame → Vec3 → List Direction
-vertexDirections a v = directionOf (dotOf (minus v (a .origin)) (a .x)) (dotOf (minus v (a .origin)) (a .y)) ∷ []
+vertexDirections a v = offsetDirections (dotOf (minus v (a .origin)) (a .x)) (dotOf (minus v (a .origin)) (a .y))
 
 -- of the first k corners
 unfoldable pub runDirections : Frame → (ℕ → Vec3) → ℕ → List Direction

@@ -28,14 +28,21 @@ use math::Vec3;
 use round_hole::cells::pack;
 use round_hole::hole::goes_round;
 use round_hole::offsets::direction;
+use round_hole::offsets::length;
 
-// The directions that a vertex gives, into the cells from n on. How many cells have one then.
+// The direction that a vertex gives, into cell n; a drill point, on the axis, gives none. How many cells have one then.
 fn put_directions(cells: &mut [f64], n: usize, frame: Frame, vertex: Vec3) -> usize
     requires { ⌜ n < length (now cells) ⌝ ∗ ⌜ Central frame ⌝ ∗ ⌜ VecWithin vertex 10000 ⌝ }
     ensures { λ r. ⌜ DirectionsPut (now (cells .entry)) (now (cells .exit)) (n + 1) r (directionsIn n (now (cells .entry)) ++ vertexDirections frame vertex) ⌝ }
 {
     let d = vertex.sub(frame.origin);
-    cells[n] = pack(direction(d.dot(frame.x), d.dot(frame.y)));
+    let x = d.dot(frame.x);
+    let y = d.dot(frame.y);
+    let length = length(x, y);
+    if length < 1e-6 {
+        return n;
+    }
+    cells[n] = pack(direction(x, y, length));
     n + 1
 }
 

@@ -1,10 +1,11 @@
--- The direction of offsets x and y: the two cases of the code, and the range of u and v.
+-- The direction of offsets x and y: the steps of the code, the two cases of a vertex, and the range of u and v.
 use mathlib.Core.Path.{_≡_, refl}
-use mathlib.Core.Bool.{Bool, true, false, cond}
+use mathlib.Core.Bool.{true, false}
+use mathlib.Core.List.{[], _∷_}
 use Prim.Native.Nat.{_*_, _≤_}
 use native.Mathlib.Nat.{le-refl}
 use lib.Dec.{T, lit<, lit≤}
-use lib.IntN.{ℤ, pos, natAbs}
+use lib.IntN.{ℤ, natAbs}
 use lib.Ieee.{Float, nan, inf, fin, binary64, up, down, fits, add, mul, div, lt, eq, le, ofBits}
 use lib.Ieee.Fits.{add-fits, mul-fits}
 use lib.Ieee.Scale.{finite}
@@ -19,19 +20,24 @@ use Rattle.num_norm.proofs.Component.{two-to-minus-484, over-root-1}
 use Rattle.num_norm.proofs.RootUnits.{root-finite}
 use Rattle.num_norm.proofs.Squares.{Term, sum-sign, first-le, last-term}
 use Rattle.num_real.proofs.RoundingLaws.{round-within}
-use Rattle.round_hole.specs.Direction.{e-6, scale, lengthOf, wholePart, directionOf}
+use Rattle.round_hole.specs.Direction.{e-6, scale, lengthOf, wholePart, directionOf, offsetDirections}
 use Rattle.round_hole.specs.Cells.{Packable}
 
--- ---- the cases of `direction`
-module _ (x y length : Float) (is : length ≡ lengthOf x y) where
-  pub direction-short : lt length e-6 ≡ true → record { u = pos 1048576; v = pos 0 } ≡ directionOf x y
-  unfolding directionOf
-  direction-short h = rw (← is, h)
+-- ---- the steps of `direction`
+pub direction-whole : (x y length : Float) (u v u' v' : ℤ) → u ≡ wholePart x length → v ≡ wholePart y length → u' ≡ u → v' ≡ v
+    → record { u = u'; v = v' } ≡ directionOf x y length
+unfolding directionOf
+direction-whole x y length u v u' v' p q p' q' = rw (p', q', p, q)
 
-  pub direction-whole : (u v u' v' : ℤ) → lt length e-6 ≡ false → u ≡ wholePart x length → v ≡ wholePart y length → u' ≡ u → v' ≡ v
-      → record { u = u'; v = v' } ≡ directionOf x y
-  unfolding directionOf
-  direction-whole u v u' v' h p q p' q' = rw (← is, h, p', q', p, q)
+-- ---- a vertex near the axis gives no direction, and any other gives one
+module _ (x y length : Float) (is : length ≡ lengthOf x y) where
+  pub directions-short : lt length e-6 ≡ true → offsetDirections x y ≡ []
+  unfolding offsetDirections
+  directions-short h = rw (← is, h)
+
+  pub directions-one : lt length e-6 ≡ false → offsetDirections x y ≡ (directionOf x y length ∷ [])
+  unfolding offsetDirections
+  directions-one h = rw (← is, h)
 
 -- ---- u and v lie from -2^20 to 2^20
 scale-within : Within scale 1048576
@@ -104,11 +110,6 @@ module _ (x y : Float) (bx : Bounded x 1048576) (by : Bounded y 1048576) where
   part-within c f t h =
       whole-within c (root s) (over-root-1 c s f t (add-fits binary64 xx yy) (sum-within .is-finite) s-sign (long-enough h) .within)
 
-  pub direction-packable : Packable (directionOf x y)
+  pub direction-packable : lt (lengthOf x y) e-6 ≡ false → Packable (directionOf x y (lengthOf x y))
   unfolding directionOf lengthOf
-  direction-packable = go (lt (root s) e-6) refl
-    where
-      go : (t : Bool) → lt (root s) e-6 ≡ t
-          → Packable (cond t (record { u = pos 1048576; v = pos 0 }) (record { u = wholePart x (root s); v = wholePart y (root s) }))
-      go true h = record { u-within = le-refl 1048576; v-within = lit≤ tt }
-      go false h = record { u-within = part-within x (bx .fit) at-x h; v-within = part-within y (by .fit) at-y h }
+  direction-packable h = record { u-within = part-within x (bx .fit) at-x h; v-within = part-within y (by .fit) at-y h }

@@ -11,7 +11,7 @@ use lib.ListN.{getD}
 use Rattle.num_float.proofs.Tests.{contrary, and-true, and-false-left, and-false-right, lt-or-ge}
 use Rattle.round_hole.specs.declared.direction.Direction.{Direction}
 use Rattle.round_hole.specs.Direction.{follows, someFollows, allFollowed, goesRound}
-use Rattle.round_hole.specs.Cells.{Packable, packOf, unpackOf, directionAt, directionsIn, None, SomeBetween}
+use Rattle.round_hole.specs.Cells.{Packable, packOf, unpackOf, directionAt, directionsIn, Found, None, SomeBetween, TrueIfFound}
 use Rattle.round_hole.proofs.CellLaws.{unpack-pack}
 
 -- ---- one direction more at the end of a list
@@ -135,28 +135,32 @@ module _ (cells : List Float) (a : Direction) where
     none = λ e. record { fails = λ j from before. none .fails j from (omega (arith, before, end)) };
   }
 
--- ---- `some_follows`: the cells from a place on, and then those before it
-module _ (cells : List Float) (k : ℕ) (a : Direction) (is : a ≡ unpackOf (getD cells k nan)) (n from : ℕ) (inside : from ≤ n) (t : Bool)
-    (after : SomeBetween t cells a from n) where
+  -- ---- the places near one: a direction found among some of the first n cells is one of them
+  pub found-among : (r : Bool) (lo hi n : ℕ) → hi ≤ n → SomeBetween r cells a lo hi → TrueIfFound r cells a n
+  found-among r lo hi n inside some = record {
+    found = λ e. let f = some .found e in record { place = f .place; from = omega arith; before = omega (arith, f .before, inside); is = f .is };
+  }
+
+  pub found-true : (t : Bool) (n : ℕ) → t ≡ true → TrueIfFound t cells a n → TrueIfFound true cells a n
+  found-true t n h some = record { found = λ e. some .found h }
+
+-- ---- `some_follows`: one found near by, or all cells tried
+module _ (cells : List Float) (k : ℕ) (a : Direction) (is : a ≡ unpackOf (getD cells k nan)) (n : ℕ) where
   own : a ≡ directionAt cells k
   unfolding directionAt
   own = is
 
-  pub followed-after : t ≡ true → true ≡ someFollows (directionAt cells k) (directionsIn n cells)
-  followed-after h =
-      let f = after .found h in
-      sym (subst (λ (d : Direction). someFollows d (directionsIn n cells) ≡ true) own (some-found cells a n (f .place) (f .before) (f .is)))
+  followed-found : Found cells a 0 n → true ≡ someFollows (directionAt cells k) (directionsIn n cells)
+  followed-found f = sym (subst (λ (d : Direction). someFollows d (directionsIn n cells) ≡ true) own (some-found cells a n (f .place) (f .before) (f .is)))
 
-  pub followed-before : (r : Bool) → t ≡ false → SomeBetween r cells a 0 from → r ≡ someFollows (directionAt cells k) (directionsIn n cells)
-  followed-before true h before =
-      let f = before .found refl in
-      sym (subst (λ (d : Direction). someFollows d (directionsIn n cells) ≡ true) own (some-found cells a n (f .place) (omega (arith, f .before)) (f .is)))
-  followed-before false h before =
-      sym (subst (λ (d : Direction). someFollows d (directionsIn n cells) ≡ false) own (some-none cells a n (λ i l. go i l (lt-or-ge i from))))
-    where
-      go : (i : ℕ) → i < n → (i < from) ⊎ (from ≤ i) → follows a (directionAt cells i) ≡ false
-      go i l (inl below) = before .none refl .fails i (omega arith) below
-      go i l (inr above) = after .none h .fails i above l
+  pub followed-near : (t : Bool) → TrueIfFound t cells a n → t ≡ true → true ≡ someFollows (directionAt cells k) (directionsIn n cells)
+  followed-near t some h = followed-found (some .found h)
+
+  pub followed-all : (r : Bool) → SomeBetween r cells a 0 n → r ≡ someFollows (directionAt cells k) (directionsIn n cells)
+  followed-all true some = followed-found (some .found refl)
+  followed-all false some =
+      sym (subst (λ (d : Direction). someFollows d (directionsIn n cells) ≡ false) own
+      (some-none cells a n (λ i l. some .none refl .fails i (omega arith) l)))
 
 -- ---- the turns of `goes_round`
 module _ (cells : List Float) (all : List Direction) where

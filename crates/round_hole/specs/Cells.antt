@@ -59,3 +59,7 @@ pub record None (cells : List Float) (a : Direction) (lo hi : ℕ) : Type 0 wher
 pub record SomeBetween (r : Bool) (cells : List Float) (a : Direction) (lo hi : ℕ) : Type 0 where
   pub found : r ≡ true → Found cells a lo hi
   pub none : r ≡ false → None cells a lo hi
+
+-- an answer of true is right: some direction of the first n cells follows a. Of false nothing is said.
+pub record TrueIfFound (r : Bool) (cells : List Float) (a : Direction) (n : ℕ) : Type 0 where
+  pub found : r ≡ true → Found cells a 0 n

@@ -1,4 +1,4 @@
--- Holes by directions in whole numbers (document 01, replacement 3). Definitions only.
+-- Holes by directions in whole numbers (document 01, replacement 3, as document 02, item 6, changes it). Definitions only.
 use mathlib.Core.Bool.{Bool, true, false, _&&_, _||_, cond}
 use mathlib.Core.List.{List, [], _∷_}
 use lib.Dec.{ltb}
@@ -24,11 +24,13 @@ lengthOf x y = root (add binary64 (mul binary64 x x) (mul binary64 y y))
 unfoldable pub wholePart : Float → Float → ℤ
 wholePart x length = roundI64 (mul binary64 (div binary64 x length) scale)
 
--- "Shorter than 1e-6 mm, it counts as (2^20, 0)"
-unfoldable pub directionOf : Float → Float → Direction
-directionOf x y =
-    cond (lt (lengthOf x y) e-6) (record { u = pos 1048576; v = pos 0 })
-    (record { u = wholePart x (lengthOf x y); v = wholePart y (lengthOf x y) })
+-- the direction of offsets x and y of this length
+unfoldable pub directionOf : Float → Float → Float → Direction
+directionOf x y length = record { u = wholePart x length; v = wholePart y length }
+
+-- "A vertex nearer the axis than 1e-6 mm now gives no direction" (document 02, item 6); any other gives one
+unfoldable pub offsetDirections : Float → Float → List Direction
+offsetDirections x y = cond (lt (lengthOf x y) e-6) [] (directionOf x y (lengthOf x y) ∷ [])
 
 -- ---- "0 < cross(a, b) and 100000 × cross(a, b) < 20271 × dot(a, b)"
 unfoldable pub crossOf : Direction → Direction → ℤ
@@ -57,7 +59,7 @@ unfoldable pub allFollowed : List Direction → List Direction → Bool
 allFollowed [] all = true
 allFollowed (a ∷ rest) all = someFollows a all && allFollowed rest all
 
--- a list without directions does not go round; a face has vertices, and so directions
+-- "A face with no direction left is not a hole" (document 02, item 6)
 unfoldable pub goesRound : List Direction → Bool
 goesRound [] = false
 goesRound (a ∷ rest) = allFollowed (a ∷ rest) (a ∷ rest)

@@ -5,7 +5,7 @@ ghost use lib.IntN.{natAbs};
 ghost use lib.ListN.{length};
 ghost use Rattle.round_hole.specs.Direction as definition;
 ghost use Rattle.round_hole.specs.Direction.{crossOf, dotOf, someFollows, goesRound};
-ghost use Rattle.round_hole.specs.Cells.{Near, SomeBetween, directionAt, directionsIn};
+ghost use Rattle.round_hole.specs.Cells.{Near, SomeBetween, TrueIfFound, directionAt, directionsIn};
 use crate::cells::unpack;
 use crate::direction::Direction;
 
@@ -50,32 +50,59 @@ fn some_between(cells: &[f64], a: Direction, lo: usize, hi: usize) -> bool
     false
 }
 
-// 12 places before place k of n, round the end: in a modeller's order a facet before or after k's own is near by, whichever way they run.
-// Where to begin is this program's choice; the answer is the same from any place.
-fn start(k: usize, n: usize) -> usize
-    requires { ⌜ k < n ⌝ }
-    ensures { λ r. ⌜ r ≤ n ⌝ }
+// Whether some direction of the w cells from place `from` of n on follows a, round the end.
+fn some_from(cells: &[f64], n: usize, a: Direction, from: usize, w: usize) -> bool
+    requires { ⌜ Near a ⌝ ∗ ⌜ n ≤ length (now cells) ⌝ ∗ ⌜ from ≤ n ⌝ ∗ ⌜ w ≤ n ⌝ }
+    ensures { λ r. ⌜ TrueIfFound r (now (cells .entry)) a n ⌝ }
 {
-    if 12 <= k {
-        return k - 12;
+    let room = n - from;
+    if w <= room {
+        return some_between(cells, a, from, from + w);
     }
-    if 12 <= n {
-        return n - 12 + k;
+    if some_between(cells, a, from, n) {
+        return true;
     }
-    0
+    some_between(cells, a, 0, w - room)
 }
 
-// Whether some direction of the first n cells follows the one in cell k, looked for from its start round to it again.
+// The place w places before place k of n, round the end.
+fn back(n: usize, k: usize, w: usize) -> usize
+    requires { ⌜ k < n ⌝ ∗ ⌜ w ≤ n ⌝ }
+    ensures { λ r. ⌜ r ≤ n ⌝ }
+{
+    if w <= k {
+        return k - w;
+    }
+    n - (w - k)
+}
+
+// Whether one of the w cells from place k of n on follows a, or one of the w before it.
+fn some_near(cells: &[f64], n: usize, a: Direction, k: usize, w: usize) -> bool
+    requires { ⌜ Near a ⌝ ∗ ⌜ n ≤ length (now cells) ⌝ ∗ ⌜ k < n ⌝ ∗ ⌜ w ≤ n ⌝ }
+    ensures { λ r. ⌜ TrueIfFound r (now (cells .entry)) a n ⌝ }
+{
+    if some_from(cells, n, a, k, w) {
+        return true;
+    }
+    some_from(cells, n, a, back(n, k, w), w)
+}
+
+// Whether some direction of the first n cells follows the one in cell k. In a modeller's order a facet before or after k's own is near by, whichever
+// way they run and however many strips a column has: so the places near k come first, twice as many each time, and then all. So the time is that of
+// the distance to the nearest follower. Where to begin is this program's choice; the answer is the same from any place.
 fn some_follows(cells: &[f64], n: usize, k: usize) -> bool
     requires { ⌜ k < n ⌝ ∗ ⌜ n ≤ length (now cells) ⌝ }
     ensures { λ r. ⌜ r ≡ someFollows (directionAt (now (cells .entry)) k) (directionsIn n (now (cells .entry))) ⌝ }
 {
     let a = unpack(cells[k]);
-    let from = start(k, n);
-    if some_between(cells, a, from, n) {
-        return true;
+    let mut w: usize = 8;
+    while w < n / 4 {
+        if some_near(cells, n, a, k, w) {
+            return true;
+        }
+        w *= 2;
     }
-    some_between(cells, a, 0, from)
+    some_between(cells, a, 0, n)
 }
 
 // Whether the directions of the first n cells go round: there are some, and each is followed by one of them.

@@ -6,7 +6,7 @@ use num_real::rounding::round_i64;
 use num_root::sqrt;
 
 // The root of the sum of the squares.
-fn length(x: f64, y: f64) -> f64
+pub fn length(x: f64, y: f64) -> f64
     ensures { λ r. ⌜ r ≡ lengthOf x y ⌝ }
 {
     sqrt(x * x + y * y)
@@ -19,14 +19,10 @@ fn whole_part(x: f64, length: f64) -> i64
     round_i64(x / length * 1048576.0)
 }
 
-// On the axis, where there is none to tell, it counts as (2^20, 0).
-pub fn direction(x: f64, y: f64) -> Direction
-    ensures { λ r. ⌜ r ≡ directionOf x y ⌝ }
+// The direction of offsets of this length.
+pub fn direction(x: f64, y: f64, length: f64) -> Direction
+    ensures { λ r. ⌜ r ≡ directionOf x y length ⌝ }
 {
-    let length = length(x, y);
-    if length < 1e-6 {
-        return Direction { u: 1048576, v: 0 };
-    }
     Direction {
         u: whole_part(x, length),
         v: whole_part(y, length),

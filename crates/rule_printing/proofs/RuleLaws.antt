@@ -40,6 +40,7 @@ use Rattle.fault_text.specs.Printing.{overhangFault}
 use Rattle.fault_text.specs.Many.{overhangFaces}
 use Rattle.fault_text.specs.Meaning.{faultOf, GoodRow}
 use Rattle.rule_printing.specs.declared.printing.Upright.{Upright}
+use Rattle.rule_printing.specs.Closed.{notClosed}
 use Rattle.rule_printing.specs.Rules.{printHoles, overhangs, hollows, trapsHollows}
 use Rattle.rule_printing.specs.All.{printing, summaryOf, PrintingPut}
 use Rattle.rule_printing.specs.Work.{HeightsAre, OverhangPut, UprightIs, Ready, RulePut}
@@ -81,9 +82,9 @@ module _ (s : List ℕ) (at : Regions) (w0 w1 w2 : List ℕ) (r0 r1 r2 : List Fl
         (outside-then nan _ _ r1 r2 r3 (outside-wide nan _ _ _ _ r1 r2 (omega arith) (omega (arith, laid)) reals)
         (outside-wide nan _ _ _ _ r2 r3 (omega arith) (omega (arith, laid)) (walls .reals-kept)))
 
-    pub walls-found : {k : ℕ} {cells cells′ : List ℕ} {numbers numbers′ : List Float} →
-        FaultsPut (faultOf (partOf s)) (GoodRow (partOf s)) 0 (printWalls (partOf s)) cells cells′ numbers numbers′ k → k ≤ 0 + length (readingsOf (partOf s)) →
-        RulePut printWalls 4096 s at 0 w0 w3 r0 r3 cells cells′ numbers numbers′ k
+    pub walls-found : {from k : ℕ} {cells cells′ : List ℕ} {numbers numbers′ : List Float} →
+        FaultsPut (faultOf (partOf s)) (GoodRow (partOf s)) from (printWalls (partOf s)) cells cells′ numbers numbers′ k → k ≤ from + length (readingsOf (partOf s)) →
+        RulePut printWalls 4096 s at from w0 w3 r0 r3 cells cells′ numbers numbers′ k
     walls-found put most =
         record {
           ready = record { standing = walls .ordered .standing; ranked = walls .ordered .ranked };
@@ -210,8 +211,8 @@ module _ (t : Part) (job : Job) (is : job ≡ t .job) (traps : Bool) (et : traps
   hollows-found e p = faults-same (trap true (not-false traps e)) p
 
 -- ---- all of them
-module _ (s : List ℕ) (at : Regions) {w0 w1 w2 w3 : List ℕ} {r0 r1 r2 r3 : List Float} {c0 c1 c2 c3 : List ℕ} {n0 n1 n2 n3 : List Float} {i j k : ℕ}
-    (walls : RulePut printWalls 4096 s at 0 w0 w1 r0 r1 c0 c1 n0 n1 i) (holes : RulePut printHoles 1024 s at i w1 w2 r1 r2 c1 c2 n1 n2 j)
+module _ (s : List ℕ) (at : Regions) {w0 w1 w2 w3 : List ℕ} {r0 r1 r2 r3 : List Float} {c0 c1 c2 c3 : List ℕ} {n0 n1 n2 n3 : List Float} {h i j k : ℕ}
+    (walls : RulePut printWalls 4096 s at h w0 w1 r0 r1 c0 c1 n0 n1 i) (holes : RulePut printHoles 1024 s at i w1 w2 r1 r2 c1 c2 n1 n2 j)
     (over : RulePut overhangs 1 s at j w2 w3 r2 r3 c2 c3 n2 n3 k) where
   pub words-all : Outside 0 (at .items) (at .words) w0 w3
   words-all = outside-then 0 _ _ w0 w1 w3 (walls .words-kept) (outside-then 0 _ _ w1 w2 w3 (holes .words-kept) (over .words-kept))
@@ -219,27 +220,27 @@ module _ (s : List ℕ) (at : Regions) {w0 w1 w2 w3 : List ℕ} {r0 r1 r2 r3 : L
   pub reals-all : Outside nan (at .falling) (at .free) r0 r3
   reals-all = outside-then nan _ _ r0 r1 r3 (walls .reals-kept) (outside-then nan _ _ r1 r2 r3 (holes .reals-kept) (over .reals-kept))
 
-  module _ {c4 : List ℕ} {n4 : List Float} {m : ℕ}
+  module _ {c c4 : List ℕ} {n n4 : List Float} {m : ℕ} (closed : FaultsPut (faultOf (partOf s)) (GoodRow (partOf s)) 0 (notClosed (partOf s)) c c0 n n0 h)
       (hollow : FaultsPut (faultOf (partOf s)) (GoodRow (partOf s)) k (cond (trapsHollows (partOf s .job .process)) (hollows (partOf s)) []) c3 c4 n3 n4 m) where
-    put-all : FaultsPut (faultOf (partOf s)) (GoodRow (partOf s)) 0 (printing (partOf s)) c0 c4 n0 n4 m
+    put-all : FaultsPut (faultOf (partOf s)) (GoodRow (partOf s)) 0 (printing (partOf s)) c c4 n n4 m
     unfolding printing
-    put-all = faults-then (walls .put) (faults-then (holes .put) (faults-then (over .put) hollow))
+    put-all = faults-then closed (faults-then (walls .put) (faults-then (holes .put) (faults-then (over .put) hollow)))
 
-    pub cells-all : length c4 ≡ length c0
+    pub cells-all : length c4 ≡ length c
     cells-all = put-all .cells-kept .long
 
-    pub numbers-all : length n4 ≡ length n0
+    pub numbers-all : length n4 ≡ length n
     numbers-all = put-all .numbers-kept .long
 
-    pub printing-put : (upright : Upright) → UprightIs (partOf s) upright → m ≤ k + 4096 → (partOf s .job .print .«has_overhang» ≡ true → Marks (partOf s) (leanOf (partOf s)) at w3) →
+    pub printing-put : h ≤ 1 → (upright : Upright) → UprightIs (partOf s) upright → m ≤ k + 4096 → (partOf s .job .print .«has_overhang» ≡ true → Marks (partOf s) (leanOf (partOf s)) at w3) →
         (x : Summary) → x ≡ printSummary (sub binary64 (upright .heights .hi) (upright .heights .lo)) →
-        PrintingPut s at w0 w3 r0 r3 c0 c4 n0 n4 (record { faults = m; summary = x })
-    printing-put upright u few marks x ex =
+        PrintingPut s at w0 w3 r0 r3 c c4 n n4 (record { faults = m; summary = x })
+    printing-put one upright u few marks x ex =
         let whole : printSummary (sub binary64 (upright .heights .hi) (upright .heights .lo)) ≡ summaryOf (partOf s)
         = unfold summaryOf in unfold heightOf in ap (λ (e : Extent). printSummary (sub binary64 (e .hi) (e .lo))) (u .heights-are) in
         record {
           put = put-all;
-          few = omega (arith, walls .few, holes .few, over .few, few);
+          few = omega (arith, one, walls .few, holes .few, over .few, few);
           summary = ex ∙ whole;
           standing = over .ready .standing;
           ranked = over .ready .ranked;

@@ -19,11 +19,12 @@ use Rattle.fault_row.specs.Fault.{Fault}
 use Rattle.fault_row.specs.Faults.{FaultsPut}
 use Rattle.fault_row.specs.Summary.{printSummary}
 use Rattle.fault_text.specs.Meaning.{faultOf, GoodRow}
+use Rattle.rule_printing.specs.Closed.{notClosed}
 use Rattle.rule_printing.specs.Rules.{printHoles, overhangs, hollows, trapsHollows}
 
--- dfm.rs's `printing`, in its order. ("Not closed", which document 01 leaves out, would come first.)
+-- dfm.rs's `printing`, in its order
 unfoldable pub printing : Part → List Fault
-printing t = printWalls t ++ (printHoles t ++ (overhangs t ++ cond (trapsHollows (t .job .process)) (hollows t) []))
+printing t = notClosed t ++ (printWalls t ++ (printHoles t ++ (overhangs t ++ cond (trapsHollows (t .job .process)) (hollows t) [])))
 
 -- `report.height = Some(top - base)`
 unfoldable pub summaryOf : Part → Summary

@@ -1,4 +1,5 @@
 -- The faults of printing.
+pub mod Closed
 pub mod Rules
 pub mod All
 pub mod Work

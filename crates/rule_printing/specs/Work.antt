@@ -22,11 +22,16 @@ use Rattle.print_overhang.specs.declared.Overhang.{Overhang}
 use Rattle.print_overhang.specs.Overhang.{leanOf, overhangCount, overhangArea}
 use Rattle.fault_row.specs.Fault.{Fault}
 use Rattle.fault_row.specs.Faults.{FaultsPut}
-use Rattle.fault_text.specs.Printing.{printSmallHoleFault, overhangFault}
+use Rattle.fault_text.specs.Printing.{notClosedFault, printSmallHoleFault, overhangFault}
 use Rattle.fault_text.specs.Many.{overhangFaces}
 use Rattle.fault_text.specs.Meaning.{faultOf, GoodRow}
 use Rattle.rule_printing.specs.declared.printing.Upright.{Upright}
 use Rattle.rule_printing.specs.Rules.{isHollow, hollowFault}
+
+-- the fault of so many open keys, or none, as the first of any part that has faces
+pub record NotClosedPut (keys : ℕ) (cells cells′ : List ℕ) (numbers numbers′ : List Float) (r : ℕ) : Type 0 where
+  pub few : r ≤ 1
+  pub put : (t : Part) → 0 < facesOf t → FaultsPut (faultOf t) (GoodRow t) 0 (cond (eqb keys 0) [] (notClosedFault keys ∷ [])) cells cells′ numbers numbers′ r
 
 -- the fault of a small hole, or none, in any accepted file where holes are to be so large
 pub record HolePut (hole : Round) (least : Float) (from : ℕ) (cells cells′ : List ℕ) (numbers numbers′ : List Float) (r : ℕ) : Type 0 where

@@ -1,4 +1,5 @@
 // The faults of printing, put as rows.
+pub mod closed;
 pub mod hollows;
 pub mod overhang;
 pub mod printing;

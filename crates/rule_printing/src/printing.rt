@@ -1,4 +1,4 @@
-// All rules of printing, one after the other, as dfm.rs's `printing` has them. ("Not closed", which document 01 leaves out, would come first.)
+// All rules of printing, one after the other, as dfm.rs's `printing` has them.
 ghost use mathlib.Core.Path.{_≡_};
 ghost use mathlib.Core.Bool.{true, cond};
 ghost use mathlib.Core.List.{[]};
@@ -15,6 +15,7 @@ ghost use Rattle.fault_text.specs.Meaning.{faultOf, GoodRow};
 ghost use Rattle.rule_printing.specs.Rules.{printHoles, overhangs, hollows, trapsHollows};
 ghost use Rattle.rule_printing.specs.All.{PrintingPut};
 ghost use Rattle.rule_printing.specs.Work.{Ready, RulePut, UprightIs};
+use crate::closed::put_not_closed;
 use crate::hollows::put_hollows;
 use crate::hollows::traps_hollows;
 use crate::overhang::lean_of;
@@ -69,12 +70,14 @@ fn wall_rule(
     reals: &mut [f64],
     cells: &mut [u32],
     numbers: &mut [f64],
-    at: Regions,
-    n: usize,
+    given: Given,
 ) -> usize
-    requires { ⌜ Standing (now file) at (now words) (now reals) ⌝ ∗ ⌜ n ≡ facesOf (partOf (now file)) ⌝ }
-    ensures { λ r. ⌜ RulePut printWalls 4096 (now (file .entry)) at 0 (now (words .entry)) (now (words .exit)) (now (reals .entry)) (now (reals .exit)) (now (cells .entry)) (now (cells .exit)) (now (numbers .entry)) (now (numbers .exit)) r ⌝ }
+    requires { ⌜ Standing (now file) (given .at) (now words) (now reals) ⌝ ∗ ⌜ given .faces ≡ facesOf (partOf (now file)) ⌝ ∗ ⌜ given .from ≤ 1 ⌝ }
+    ensures { λ r. ⌜ RulePut printWalls 4096 (now (file .entry)) (given .at) (given .from) (now (words .entry)) (now (words .exit)) (now (reals .entry)) (now (reals .exit)) (now (cells .entry)) (now (cells .exit)) (now (numbers .entry)) (now (numbers .exit)) r ⌝ }
 {
+    let at = given.at;
+    let n = given.faces;
+    let from = given.from;
     put_ranks(file, words, reals, at, n);
     let m = put_samples(file, words, reals, at, n);
     let counts = Counts {
@@ -82,12 +85,12 @@ fn wall_rule(
         readings: m,
     };
     order_walls(file, words, reals, at, counts);
-    let given = print_walls::Given {
+    let counted = print_walls::Given {
         at: at,
         counts: counts,
-        from: 0,
+        from: from,
     };
-    put_print_walls(file, words, reals, cells, numbers, given)
+    put_print_walls(file, words, reals, cells, numbers, counted)
 }
 
 // The rounds, and the holes that are too small. How many faults there are then.
@@ -99,7 +102,7 @@ fn hole_rule(
     numbers: &mut [f64],
     given: Given,
 ) -> usize
-    requires { ⌜ Ready (now file) (given .at) (now words) (now reals) ⌝ ∗ ⌜ given .faces ≡ facesOf (partOf (now file)) ⌝ ∗ ⌜ given .from ≤ 4096 ⌝ }
+    requires { ⌜ Ready (now file) (given .at) (now words) (now reals) ⌝ ∗ ⌜ given .faces ≡ facesOf (partOf (now file)) ⌝ ∗ ⌜ given .from ≤ 4097 ⌝ }
     ensures { λ r. ⌜ RulePut printHoles 1024 (now (file .entry)) (given .at) (given .from) (now (words .entry)) (now (words .exit)) (now (reals .entry)) (now (reals .exit)) (now (cells .entry)) (now (cells .exit)) (now (numbers .entry)) (now (numbers .exit)) r ⌝ ∗ ⌜ Rounds (partOf (now (file .entry))) (given .at) (now (words .exit)) (now (reals .exit)) ⌝ }
 {
     let at = given.at;
@@ -120,7 +123,7 @@ fn overhang_rule(
     upright: Upright,
 ) -> usize
     requires { ⌜ Ready (now file) (given .at) (now words) (now reals) ⌝ ∗ ⌜ Rounds (partOf (now file)) (given .at) (now words) (now reals) ⌝ ∗ ⌜ given .faces ≡ facesOf (partOf (now file)) ⌝ }
-    requires { ⌜ 0 < given .faces ⌝ ∗ ⌜ given .from ≤ 5120 ⌝ ∗ ⌜ UprightIs (partOf (now file)) upright ⌝ }
+    requires { ⌜ 0 < given .faces ⌝ ∗ ⌜ given .from ≤ 5121 ⌝ ∗ ⌜ UprightIs (partOf (now file)) upright ⌝ }
     ensures { λ r. ⌜ RulePut overhangs 1 (now (file .entry)) (given .at) (given .from) (now (words .entry)) (now (words .exit)) (now (reals .entry)) (now (reals .exit)) (now (cells .entry)) (now (cells .exit)) (now (numbers .entry)) (now (numbers .exit)) r ⌝ ∗ ⌜ (partOf (now (file .entry)) .job .print .«has_overhang» ≡ true → Marks (partOf (now (file .entry))) (leanOf (partOf (now (file .entry)))) (given .at) (now (words .exit))) ⌝ }
 {
     let at = given.at;
@@ -148,7 +151,7 @@ fn hollow_rule(
     at: Regions,
     from: usize,
 ) -> usize
-    requires { ⌜ Standing (now file) at (now words) (now reals) ⌝ ∗ ⌜ from ≤ 5121 ⌝ ∗ ⌜ (trapsHollows (partOf (now file) .job .process) ≡ true → at .bodies ≡ true) ⌝ }
+    requires { ⌜ Standing (now file) at (now words) (now reals) ⌝ ∗ ⌜ from ≤ 5122 ⌝ ∗ ⌜ (trapsHollows (partOf (now file) .job .process) ≡ true → at .bodies ≡ true) ⌝ }
     ensures { λ r. ⌜ FaultsPut (faultOf (partOf (now (file .entry)))) (GoodRow (partOf (now (file .entry)))) from (cond (trapsHollows (partOf (now (file .entry)) .job .process)) (hollows (partOf (now (file .entry)))) []) (now (cells .entry)) (now (cells .exit)) (now (numbers .entry)) (now (numbers .exit)) r ⌝ ∗ ⌜ r ≤ from + 4096 ⌝ }
 {
     let job = job_of(file);
@@ -170,12 +173,17 @@ pub fn printing(
     n: usize,
 ) -> Found
     requires { ⌜ Standing (now file) at (now words) (now reals) ⌝ ∗ ⌜ n ≡ facesOf (partOf (now file)) ⌝ ∗ ⌜ 0 < n ⌝ }
-    requires { ⌜ (trapsHollows (partOf (now file) .job .process) ≡ true → at .bodies ≡ true) ⌝ }
+    requires { ⌜ at .segments ≡ true ⌝ ∗ ⌜ (trapsHollows (partOf (now file) .job .process) ≡ true → at .bodies ≡ true) ⌝ }
     ensures { λ r. ⌜ PrintingPut (now (file .entry)) at (now (words .entry)) (now (words .exit)) (now (reals .entry)) (now (reals .exit)) (now (cells .entry)) (now (cells .exit)) (now (numbers .entry)) (now (numbers .exit)) r ⌝ }
 {
     let upright = upright_of(file);
     let heights = upright.heights;
-    let walls = wall_rule(file, words, reals, cells, numbers, at, n);
+    let first = Given {
+        at: at,
+        faces: n,
+        from: put_not_closed(file, words, reals, cells, numbers, at),
+    };
+    let walls = wall_rule(file, words, reals, cells, numbers, first);
     let given = Given {
         at: at,
         faces: n,

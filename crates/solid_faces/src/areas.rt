@@ -25,8 +25,8 @@ pub fn put_areas(file: &[u8], areas: &mut [f64])
     let polygons = polygon_count(file);
     let mut p: usize = 0;
     while p < polygons {
-        let at = entry_at(vertices, p);
-        areas[p] = poly_area(file, first_vertex(file, at), run_length(file, at));
+        let entry = entry_at(vertices, p);
+        areas[p] = poly_area(file, first_vertex(file, entry), run_length(file, entry));
         p += 1;
     }
 }

@@ -1,13 +1,14 @@
--- The readings at the edge of document 01 that are marked as proved, each a theorem about the meaning itself, computed.
+-- The readings at the edge of document 01 that are marked as proved, and those of lengths in document 02, each a theorem about the meaning itself,
+-- computed.
 -- A float is written fin s m e: m * 2 ^ e, negative where s is true; negsuc k is -(k + 1). So 0.125 is fin false 1 (negsuc 2).
 use mathlib.Core.Path.{_≡_, refl}
 use mathlib.Core.Bool.{true, false}
 use mathlib.Core.List.{[], _∷_}
 use Prim.Native.Nat.{ℕ}
 use lib.IntN.{pos, negsuc}
-use lib.Ieee.{fin, binary64, mul, lt, toBits, ofBits}
+use lib.Ieee.{fin, binary64, mul, le, lt, eq, toBits, ofBits}
 use Rattle.num_root.specs.Root.{root}
-use Rattle.num_text.specs.Decimal.{text}
+use Rattle.num_text.specs.Decimal.{text, accepted, decimalText}
 use Rattle.num_text.specs.Put.{bytes}
 use Rattle.file_part.specs.Part.{Part}
 use Rattle.solid_ids.specs.Ids.{idOf}
@@ -17,6 +18,7 @@ use Rattle.fault_row.specs.declared.fault.Severity.the-variants.{Error, Warning
 use Rattle.fault_row.specs.declared.fault.Rule.the-variants.{DeepHole, ThinWall}
 use Rattle.fault_row.specs.Fault.{fault}
 use Rattle.fault_text.specs.Job.{defaultMinWall, minWall}
+use Rattle.fault_text.specs.Text.{mmPlaces, mm}
 use Rattle.fault_text.specs.Machining.{thinWallText, deepHoleStandardText, thinWallFault, deepHoleStandardFault}
 use Rattle.fault_text.proofs.JobLaws.{min-wall-zero}
 use Rattle.rule_machining.specs.Machining.{wallSeverity, wallFault, deepHoles}
@@ -51,6 +53,35 @@ below-half = refl
 pub minus-zero-text : text (fin true 0 (pos 0)) 2 ≡ bytes "0.00"
 unfolding text
 minus-zero-text = refl
+
+-- ---- lengths: "A length below 0.1 mm is written with three decimals in every message; 0.1 and above keep two" (document 02, item 2)
+-- 0.1 has two
+pub length-tenth : mm (ofBits binary64 0x3FB999999999999A) ≡ bytes "0.10 mm"
+unfolding mm mmPlaces decimalText accepted text ofBits le lt eq
+length-tenth = refl
+
+-- the next f64 below three: "tested on the f64 before rounding"
+pub length-below-tenth : mm (ofBits binary64 0x3FB9999999999999) ≡ bytes "0.100 mm"
+unfolding mm mmPlaces decimalText accepted text ofBits le lt eq
+length-below-tenth = refl
+
+-- the layers of resin: 0.025 and 0.03 no longer look equal
+pub length-of-25 : mm (ofBits binary64 0x3F9999999999999A) ≡ bytes "0.025 mm"
+unfolding mm mmPlaces decimalText accepted text ofBits le lt eq
+length-of-25 = refl
+
+pub length-of-30 : mm (ofBits binary64 0x3F9EB851EB851EB8) ≡ bytes "0.030 mm"
+unfolding mm mmPlaces decimalText accepted text ofBits le lt eq
+length-of-30 = refl
+
+-- "a gap of zero, of either sign, now prints 0.000"
+pub length-zero : mm (fin false 0 (pos 0)) ≡ bytes "0.000 mm"
+unfolding mm mmPlaces decimalText accepted text ofBits le lt eq
+length-zero = refl
+
+pub length-minus-zero : mm (fin true 0 (pos 0)) ≡ bytes "0.000 mm"
+unfolding mm mmPlaces decimalText accepted text ofBits le lt eq
+length-minus-zero = refl
 
 -- ---- roots
 -- the root of 4 is 2

@@ -11,6 +11,7 @@
 --   ordered-falls, ordered-stable                no area is greater than one at its left, and no number lower where areas are equal
 --   lengths-none, lengths-more, lengths-within, lengths-all      how many polygons the first n faces have: at most all
 --   in-order-keys, falling-at                    keys that agree give one order; the keys are the areas negated
+--   comes-by-area           the comparison by kept keys is the one that computes both areas anew
 -- PassingLaws, SortLaws: the steps of the functions here. Samples: shares and steps computed
 pub mod PassingLaws
 pub mod ShareLaws

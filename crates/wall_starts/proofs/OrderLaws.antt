@@ -1,12 +1,12 @@
 -- The polygons of a face and their order by falling area.
 use mathlib.Core.Path.{_≡_, refl, sym, ap, _∙_, subst}
-use mathlib.Core.Bool.{Bool, true, false, cond}
+use mathlib.Core.Bool.{Bool, true, false, not, _&&_, _||_, cond}
 use mathlib.Core.List.{List, [], _∷_, _++_}
 use mathlib.Core.Logic.{_⊎_, inl, inr}
 use Prim.Native.Nat.{ℕ, zero, suc, _+_, _≤_, _<_}
 use native.Mathlib.Omega.{arith}
 use native.Mathlib.Numerals.{add-one}
-use lib.Dec.{eqb}
+use lib.Dec.{eqb, ltb}
 use lib.ListN.{length, getD, length-append, List·getD-append}
 use lib.Seq.{getD-append-seam}
 use lib.Ieee.{Float, nan, neg, lt, isNan}
@@ -94,6 +94,13 @@ falling-at t (suc n) q l = go (falling-at t n q) (lt-or-ge q n)
         let seam : q ≡ length (fallingTo t n) = omega (arith, here, falling-length t n) in
         ap (λ (k : ℕ). getD (fallingTo t n ++ (x ∷ [])) k nan) seam ∙ getD-append-seam (fallingTo t n) x [] nan
         ∙ ap (λ (k : ℕ). neg (polygonArea t k)) here
+
+-- the comparison by kept keys is the one that computes both areas anew: a comes before b where its area is greater, or neither is and a is the lower number
+pub comes-by-area : (t : Part) (n a b : ℕ) → a < n → b < n →
+    comes (fallingTo t n) a b ≡ (lt (polygonArea t b) (polygonArea t a) || (not (lt (polygonArea t a) (polygonArea t b)) && ltb a b))
+unfolding comes
+comes-by-area t n a b la lb =
+    rw (falling-at t n a la, falling-at t n b lb, neg-lt (polygonArea t a) (polygonArea t b), neg-lt (polygonArea t b) (polygonArea t a)) refl
 
 -- ---- the polygons of a face
 -- polygon q is of face f

@@ -18,6 +18,7 @@ pub const FINDINGS: &[(&str, &str, &str)] = &[
     ("Warning", "Small hole", "punch poorly"),
     ("Warning", "Hole too close", "an edge"),
     ("Warning", "Hole too close", "a bend"),
+    ("Error", "Not closed", ""),
     ("Error", "Thinner than a layer", ""),
     ("Warning", "Few layers", ""),
     ("Error", "Thinner than the nozzle", ""),

@@ -22,11 +22,11 @@ pub fn gap_of_bore(d: &mut Draw, part: &mut Part) {
     part.block(2, [0.0, 0.0, -5.0], [10.0, 10.0, -3.0]);
 }
 
-/// A conical dimple called a cylinder, its tip about 1e-6 off the axis, where no direction is. The
-/// rim leaves a gap about y: only the direction that such a tip counts as fills it.
+/// A conical dimple called a cylinder, its tip about 1e-6 off the axis; nearer it gives no direction. The
+/// rim leaves a gap about y: only the direction of a tip that is far enough fills it.
 pub fn dimple(d: &mut Draw, part: &mut Part) {
     let off = d.pick(&[0.0, 1e-6, 1e-6, 1e-6]);
-    let tip = [if off > 0.0 && d.one_in(2) { d.steps(off) } else { off }, 0.0, 0.0];
+    let tip = [0.0, if off > 0.0 && d.one_in(2) { d.steps(off) } else { off }, 0.0];
     let sides = d.pick(&[8, 32, 40, 40, 40]);
     let kind = Kind::Cylinder([0.0; 3], Z, d.pick(&[0.4, 0.5, 2.0]));
     let rim = |k: usize| {

@@ -23,13 +23,16 @@ unfolding asksSegments
 sheet-metal-requires c κs = (c .before .before .before .before .before .before .before .before .before .before .before .before .before .pre .0, (c .before .before .before .before .before .before .before .before .before .before .before .before .before .pre .1 .0, (omega (arith, c .before .before .before .before .before .before .before .if1 .left), with-segments _ _ _ (c .before .before .before .before .before .before .before .before .before .before .before .before .before .pre .1 .1) (process-is _ _ _ (c .before .before .before .before .before .before .job-of .ensures) (c .before .before .before .before .enum-told2 .given .1)) refl)))
 
 printing-requires : tie.Need-printing-requires
-printing-requires c κs = (c .before .before .before .before .before .before .before .before .before .before .before .before .before .pre .0, (c .before .before .before .before .before .before .before .before .before .before .before .before .before .pre .1 .0, (omega (arith, c .before .before .before .before .before .before .before .if1 .left), λ traps. c .before .before .before .before .before .before .before .before .before .before .before .before .before .pre .1 .1 .bodies ∙ traps)))
+unfolding asksSegments
+printing-requires c κs = (c .before .before .before .before .before .before .before .before .before .before .before .before .before .pre .0, (c .before .before .before .before .before .before .before .before .before .before .before .before .before .pre .1 .0, (omega (arith, c .before .before .before .before .before .before .before .if1 .left), (with-segments _ _ _ (c .before .before .before .before .before .before .before .before .before .before .before .before .before .pre .1 .1) (process-is _ _ _ (c .before .before .before .before .before .before .job-of .ensures) (c .before .before .before .before .enum-told3 .given .1)) refl, λ traps. c .before .before .before .before .before .before .before .before .before .before .before .before .before .pre .1 .1 .bodies ∙ traps))))
 
 printing-requires-2 : tie.Need-printing-requires-2
-printing-requires-2 c κs = (c .before .before .before .before .before .before .before .before .before .before .before .before .before .pre .0, (c .before .before .before .before .before .before .before .before .before .before .before .before .before .pre .1 .0, (omega (arith, c .before .before .before .before .before .before .before .if1 .left), λ traps. c .before .before .before .before .before .before .before .before .before .before .before .before .before .pre .1 .1 .bodies ∙ traps)))
+unfolding asksSegments
+printing-requires-2 c κs = (c .before .before .before .before .before .before .before .before .before .before .before .before .before .pre .0, (c .before .before .before .before .before .before .before .before .before .before .before .before .before .pre .1 .0, (omega (arith, c .before .before .before .before .before .before .before .if1 .left), (with-segments _ _ _ (c .before .before .before .before .before .before .before .before .before .before .before .before .before .pre .1 .1) (process-is _ _ _ (c .before .before .before .before .before .before .job-of .ensures) (c .before .before .before .before .enum-told4 .given .1)) refl, λ traps. c .before .before .before .before .before .before .before .before .before .before .before .before .before .pre .1 .1 .bodies ∙ traps))))
 
 printing-requires-3 : tie.Need-printing-requires-3
-printing-requires-3 c κs = (c .before .before .before .before .before .before .before .before .before .before .before .before .before .pre .0, (c .before .before .before .before .before .before .before .before .before .before .before .before .before .pre .1 .0, (omega (arith, c .before .before .before .before .before .before .before .if1 .left), λ traps. c .before .before .before .before .before .before .before .before .before .before .before .before .before .pre .1 .1 .bodies ∙ traps)))
+unfolding asksSegments
+printing-requires-3 c κs = (c .before .before .before .before .before .before .before .before .before .before .before .before .before .pre .0, (c .before .before .before .before .before .before .before .before .before .before .before .before .before .pre .1 .0, (omega (arith, c .before .before .before .before .before .before .before .if1 .left), (with-segments _ _ _ (c .before .before .before .before .before .before .before .before .before .before .before .before .before .pre .1 .1) (process-is _ _ _ (c .before .before .before .before .before .before .job-of .ensures) (c .before .before .before .before .enum-told5 .given .1)) refl, λ traps. c .before .before .before .before .before .before .before .before .before .before .before .before .before .pre .1 .1 .bodies ∙ traps))))
 
 same-length : tie.Need-same-length
 same-length c = c .before .before .before .before .before .before .before .before .machined .ensures .put .words-kept .long

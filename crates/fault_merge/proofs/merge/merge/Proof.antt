@@ -12,10 +12,13 @@ use Rattle.fault_merge.proofs.merge.merge.Statement.{statement}
 use Rattle.fault_merge.proofs.merge.merge.Tie as tie
 
 abbrev Inv-loop : tie.InvT-loop
-Inv-loop work₀ file cells numbers n i₀ work i = (i ≤ n) × (length work ≡ length work₀) × Merged (partOf file) cells numbers work i
+Inv-loop work₀ file cells numbers n end i₀ work i = (i ≤ n) × (length work ≡ length work₀) × Merged (partOf file) cells numbers work i
 
 abbrev μ-loop : tie.MeasureT-loop
-μ-loop work₀ file cells numbers n i₀ work i = n - i
+μ-loop work₀ file cells numbers n end i₀ work i = n - i
+
+mul-end : tie.Need-mul-end Inv-loop μ-loop
+mul-end c = omega (arith, c .before .before .before .before .pre .0 .few)
 
 loop-holds : tie.Need-loop-holds Inv-loop μ-loop
 loop-holds c =
@@ -25,7 +28,7 @@ loop-holds c =
 join-requires : tie.Need-join-requires Inv-loop μ-loop
 join-requires c κs =
     let p = c .before .before .before .before .before .before .before .pre in
-    (rows-less _ _ _ (c .before .before .before .before .before .before .before .args .n) (c .before .before .loop .i + 1) (omega arith) (p .0), (omega (arith, p .1, c .before .before .loop .inv .1), c .before .before .loop .inv .2))
+    (rows-less _ _ _ (c .before .before .before .before .before .before .before .args .n) (c .before .before .loop .i + 1) (omega arith) (p .0), (omega arith, (omega (arith, p .1, c .before .before .loop .inv .1), c .before .before .loop .inv .2)))
 
 add-i : tie.Need-add-i Inv-loop μ-loop
 add-i c = omega arith
@@ -51,6 +54,7 @@ merge-spec =
     (tie.spec
     Inv-loop
     μ-loop
+    mul-end
     loop-holds
     join-requires
     add-i

@@ -1,0 +1,3 @@
+// The lines of OBJ text.
+pub mod field;
+pub mod line;

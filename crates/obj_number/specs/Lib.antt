@@ -1,0 +1,4 @@
+-- What the fields of a line of OBJ text are as numbers.
+pub mod Cut
+pub mod Whole
+pub mod Decimal

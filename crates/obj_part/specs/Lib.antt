@@ -1,0 +1,3 @@
+-- The part file of OBJ text.
+pub mod Bytes
+pub mod File

@@ -1,0 +1,2 @@
+// The part file of OBJ text.
+pub mod bytes;

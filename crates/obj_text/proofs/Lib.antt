@@ -1,0 +1,5 @@
+-- Laws that callers and the proofs of several functions use.
+-- the lines from a place on (`forms-step`)
+pub mod LineLaws
+-- the tally, line by line, and what it tells of the whole text (`judged`)
+pub mod TallyLaws

@@ -1,0 +1,2 @@
+// OBJ text, read in passes over its lines.
+pub mod judge;
