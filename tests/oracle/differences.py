@@ -10,6 +10,7 @@ polygon, as long as the disagreement stays, and written to DIR with both answers
 """
 import collections
 import concurrent.futures
+import math
 import os
 import re
 import struct
@@ -63,8 +64,37 @@ def kind_of_tree(a, b):
     return "tree: a tie" if same else "tree: a box missed"
 
 
-def cause(k, a, b):
-    return kind_of_order(a, b) if k == 1 else kind_of_tree(a, b) if k == 2 else CAUSES[k]
+def sides(data, scale):
+    """Of each side key at this scale how many sides have it, and how many more of them run one way than the other."""
+    vertices, polygons = struct.unpack_from("<2I", data, len(data) - 12)
+    found = {}
+    for p in range(polygons):
+        first, count = struct.unpack_from("<2I", data, 24 * vertices + 80 * p + 8)
+        points = struct.iter_unpack("<3d", data[24 * first : 24 * (first + count)])
+        keys = [tuple(int(math.copysign(math.floor(abs(c * scale) + 0.5), c)) for c in point) for point in points]
+        for i, a in enumerate(keys):
+            b = keys[(i + 1) % count]
+            if a != b:
+                n, sum = found.get((min(a, b), max(a, b)), (0, 0))
+                found[min(a, b), max(a, b)] = (n + 1, sum + (1 if a < b else -1))
+    return found
+
+
+def kinds_of_open(data):
+    """Of a file that counts of open edges tell apart: the sides that do."""
+    coarse, fine = sides(data, 1e4), sides(data, 1e5)
+    found = set()
+    if any(n == 2 and sum for n, sum in coarse.values()):
+        found.add("Not closed: two sides that run the same way")
+    if any(n > 2 and sum for n, sum in coarse.values()):
+        found.add("Not closed: a key of three sides or more")
+    if sum(s != 0 for n, s in coarse.values()) != sum(s != 0 for n, s in fine.values()):
+        found.add("Not closed: another key")
+    return found or {CAUSES[5]}
+
+
+def causes(k, a, b, data):
+    return kinds_of_open(data) if k == 5 else {kind_of_order(a, b) if k == 1 else kind_of_tree(a, b) if k == 2 else CAUSES[k]}
 
 
 def causes_of(files):
@@ -78,7 +108,7 @@ def causes_of(files):
         found = set()
         for k, runs in lacking.items():
             for other in {r[i] for r in runs} - {answer}:
-                found.add(cause(k, answer, other))
+                found |= causes(k, answer, other, files[i])
         answers = [r[i] for r in unpatched]
         rows.append((any(a != answer for a in answers), len(set(answers)) > 1, found, answer, answers))
     return rows

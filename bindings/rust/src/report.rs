@@ -51,7 +51,7 @@ pub enum Rule {
     Material,
     /// No material is assigned.
     NoMaterial,
-    /// Kept for its name: nothing is found by this rule.
+    /// Some sides have no other beside them: the body is open.
     NotClosed,
     /// A sheet varies in thickness.
     NotOneThickness,
