@@ -7,7 +7,7 @@ import sys
 CHECK = re.compile(r"^check, (\w+), .* \((\d+) polygons; .*\): ([\d.]+) µs; the Rust's ([\d.]+) µs with the replacements, ([\d.]+) µs as published")
 MERGE = re.compile(r"^merging and printing, .*, (\d+) lines, .* are ([\d.]+) µs; the Rust's ([\d.]+) µs: ([\d.]+) times")
 # sizes up to so many polygons make a row
-ROWS = (10, 400, 1500, 3600, 4096)
+ROWS = (10, 400, 1000, 1500, 3600, 4096)
 PROCESSES = {"CNC": ("CNC",), "sheet metal": ("sheet",), "FDM": ("FDM",), "SLA and SLS": ("SLA", "SLS")}
 
 
