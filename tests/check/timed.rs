@@ -62,6 +62,6 @@ pub fn of_one_face() -> Vec<Timed> {
 pub fn of_many_faults() -> Vec<Timed> {
     let timed = |name: &str, process: u32, mesh: Mesh| Timed { name: name.into(), process, file: mesh.bytes() };
     let corners = [false, true].map(|differ| timed("corners of 682 pits", CNC, many::corners(682, differ)));
-    let hollows = [1, 16, 128, 512, 1024, 2048].map(|volumes| timed("2,048 hollows", SLS, many::hollows(2048, volumes)));
+    let hollows = [1, 16, 128, 512, 1024, 2048].map(|volumes| timed("2,047 hollows in an open body", SLS, many::hollows(2047, volumes)));
     corners.into_iter().chain(hollows).collect()
 }

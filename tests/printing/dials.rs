@@ -20,7 +20,8 @@ impl dial::Found for Found {
     /// The first rule of which they say something else.
     fn change(&self, other: &Found) -> String {
         let of = |found: &Found, rule: &str| found.0.iter().filter(|f| f.0 == rule).cloned().collect::<Vec<_>>();
-        let rules = ["Overhang", "Enclosed hollow", "Small hole", "Thinner than a layer", "Few layers", "Thinner than the nozzle", "Thin wall"];
+        let rules =
+            ["Overhang", "Enclosed hollow", "Small hole", "Thinner than a layer", "Few layers", "Thinner than the nozzle", "Thin wall", "Not closed"];
         let changed = rules.into_iter().find(|rule| of(self, rule) != of(other, rule));
         format!("change of {}", changed.expect("a rule of printing"))
     }

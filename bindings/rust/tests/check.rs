@@ -2,7 +2,7 @@
 mod common;
 
 use common::{cuboid, hollows, largest, part, plate, plate_report, CNC, FDM, SLS};
-use gablemadder::{check, check_with, Checker, Face, FaultRow, Refusal, Rule, Scratch, Severity, MOST_REPORT, MOST_ROWS};
+use gablemadder::{check, check_with, Checker, Face, FaultRow, Finding, Refusal, Rule, Scratch, Severity, MOST_REPORT, MOST_ROWS};
 
 /// A check's buffers, full of junk.
 struct Lent {
@@ -84,7 +84,7 @@ fn each_refusal_of_a_file() {
     assert_eq!(refused(&part(CNC, &triangle(0.0))), Refusal::FlatPolygon);
     let faces: Vec<_> = (0..1025).map(|k| (1, k, triangle(1.0)[0].2.clone())).collect();
     assert_eq!(refused(&part(CNC, &faces)), Refusal::TooManyFaces);
-    assert_eq!(refused(&hollows(2049)), Refusal::TooManyFaults);
+    assert_eq!(refused(&hollows(MOST_ROWS)), Refusal::TooManyFaults);
 }
 
 #[test]
@@ -119,11 +119,14 @@ fn lent_buffers_after_refusals() {
 
 #[test]
 fn a_long_report_comes_whole() {
-    let file = hollows(MOST_ROWS);
+    // one fault more says that the body is not closed
+    let file = hollows(MOST_ROWS - 1);
     let report = check(&file).unwrap();
     assert!(report.text().len() > 65_536 && report.text().len() <= MOST_REPORT);
     assert_eq!(report.findings().count(), MOST_ROWS);
-    assert!(report.findings().all(|f| f.severity == Severity::Error && f.rule == Rule::EnclosedHollow && f.faces().count() == 1));
+    let hollow = |f: &Finding| f.severity == Severity::Error && f.rule == Rule::EnclosedHollow && f.faces().count() == 1;
+    assert_eq!(report.findings().filter(hollow).count(), MOST_ROWS - 1);
+    assert!(report.findings().last().is_some_and(|f| f.rule == Rule::NotClosed && f.faces().count() == 0));
     let mut lent = Lent::new(Scratch::of(&file), MOST_ROWS, MOST_REPORT);
     let length = lent.check(&file).unwrap();
     assert_eq!(&lent.report[..length], report.text().as_bytes());
@@ -133,7 +136,7 @@ fn a_long_report_comes_whole() {
 fn a_checker_answers_as_check_does() {
     let mut checker = Checker::new();
     let files =
-        [plate(), hollows(MOST_ROWS), part(CNC, &[]), vec![0; 9], hollows(2049), largest(SLS), part(FDM, &cuboid(4, [9.0, 8.0, 0.3])), plate()];
+        [plate(), hollows(MOST_ROWS - 1), part(CNC, &[]), vec![0; 9], hollows(MOST_ROWS), largest(SLS), part(FDM, &cuboid(4, [9.0, 8.0, 0.3])), plate()];
     for file in &files {
         assert_eq!(checker.check(file), check(file));
     }

@@ -12,7 +12,7 @@ fn answer(checker: &mut Checker, file: &[u8]) -> Result<String, Refusal> {
 
 /// Parts of every size and answer; no two alike.
 fn parts() -> Vec<Vec<u8>> {
-    let mut parts = vec![plate(), hollows(MOST_ROWS), hollows(2049), largest(SLS), part(CNC, &[]), vec![0; 100]];
+    let mut parts = vec![plate(), hollows(MOST_ROWS - 1), hollows(MOST_ROWS), largest(SLS), part(CNC, &[]), vec![0; 100]];
     for k in 1..40 {
         let size = [20.0, 3.0 + k as f64, 0.03 * k as f64];
         parts.push(part([CNC, FDM, SLS][k % 3], &cuboid(k as u32, size)));
@@ -42,7 +42,7 @@ fn four_threads_answer_as_one() {
 #[test]
 fn little_stack_is_needed() {
     let check_all = || {
-        for file in [plate(), largest(CNC), largest(SHEET), largest(FDM), largest(SLS), hollows(MOST_ROWS)] {
+        for file in [plate(), largest(CNC), largest(SHEET), largest(FDM), largest(SLS), hollows(MOST_ROWS - 1)] {
             check(&file).ok();
         }
     };

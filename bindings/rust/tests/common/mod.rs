@@ -69,7 +69,7 @@ pub fn cuboid(feature: u32, [x, y, z]: Point) -> Vec<Polygon> {
     (0..).zip(faces).map(|(index, points)| (feature, index, points.to_vec())).collect()
 }
 
-/// Hollows of one triangle each, no two of which touch, each of its own volume: as many findings.
+/// Hollows of one triangle each, no two of which touch, each of its own volume: as many findings, and one that the body is not closed.
 pub fn hollows(count: usize) -> Vec<u8> {
     let triangle = |k: usize| {
         let [x, y, z] = [3.0 * (k % 64) as f64, 3.0 * (k / 64) as f64, -1.0 - 0.5 * k as f64];
