@@ -135,8 +135,16 @@ fn a_long_report_comes_whole() {
 #[test]
 fn a_checker_answers_as_check_does() {
     let mut checker = Checker::new();
-    let files =
-        [plate(), hollows(MOST_ROWS - 1), part(CNC, &[]), vec![0; 9], hollows(MOST_ROWS), largest(SLS), part(FDM, &cuboid(4, [9.0, 8.0, 0.3])), plate()];
+    let files = [
+        plate(),
+        hollows(MOST_ROWS - 1),
+        part(CNC, &[]),
+        vec![0; 9],
+        hollows(MOST_ROWS),
+        largest(SLS),
+        part(FDM, &cuboid(4, [9.0, 8.0, 0.3])),
+        plate(),
+    ];
     for file in &files {
         assert_eq!(checker.check(file), check(file));
     }
