@@ -135,6 +135,8 @@ const CHANGES: [(&str, u64); 7] = [
     ("change of Few layers", 100),
     ("change of Thinner than the nozzle", 100),
     ("change of Thin wall", 100),
+    // seldom: a part is as open when it is turned as before, and scaling changes it only near the size of a key
+    ("change of Not closed", 1),
 ];
 
 pub struct Printing;
