@@ -127,7 +127,7 @@ const LIMITS: [&str; 14] = [
 ];
 
 /// Of what changes between two parts that one f64 tells apart.
-const CHANGES: [(&str, u64); 7] = [
+const CHANGES: [(&str, u64); 8] = [
     ("change of Overhang", 300),
     ("change of Enclosed hollow", 100),
     ("change of Small hole", 100),
