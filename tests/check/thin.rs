@@ -152,7 +152,7 @@ pub const WANTED: [(&str, u64); 10] = [
 const RAREST: u64 = 1_000;
 
 /// Words of the messages that print none.
-const NO_LENGTH: [&str; 6] = ["No material", "Material", "Overhang", "resin", "powder", "standard drills"];
+const NO_LENGTH: [&str; 7] = ["No material", "Not closed", "Material", "Overhang", "resin", "powder", "standard drills"];
 
 /// Of a finding's name, where its message has a length of three decimals.
 fn with_three(name: &str) -> String {
