@@ -1,0 +1,3 @@
+-- What the part file of OBJ text says.
+pub mod Found
+pub mod Refusals
