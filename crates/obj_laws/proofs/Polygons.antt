@@ -7,18 +7,20 @@ use native.Mathlib.Omega.{arith}
 use lib.ListN.{length, take, drop, getD}
 use lib.Seq.{take-at}
 use Rattle.file_field.specs.Field.{vecAt}
+use Rattle.file_job.specs.Job.{jobAt, nameAt}
 use Rattle.file_part.specs.declared.read.FaceId.{FaceId}
 use Rattle.file_part.specs.declared.read.SurfaceKind.the-variants.{Plane}
 use Rattle.file_part.specs.Layout.{edition, vertexCount, polygonCount, back, entryAt, sizeOf}
 use Rattle.file_part.specs.Part.{faceAt, surfaceAt, firstAt, countAt, partOf}
-use Rattle.file_part.proofs.PartLaws.{part-vertices, part-polygons, part-vertex, part-first, part-count, part-face, part-surface}
+use Rattle.file_part.proofs.PartLaws.{part-vertices, part-polygons, part-vertex, part-first, part-count, part-face, part-surface, part-job, part-name}
 use Rattle.obj_text.specs.Text.{facesOf, cornersOf, vertexOf, verticesOf}
 use Rattle.obj_text.proofs.BoundLaws.{Bounded, face-bounded, vertex-held, corners-more, corners-all, corner-of-face}
 use Rattle.obj_part.specs.File.{partFile, objRefusal}
 use Rattle.obj_part.proofs.FileLaws.{part-length}
-use Rattle.obj_laws.specs.Found.{noFace, faceOf, SamePolygon, SamePolygons, SameVertices}
+use Rattle.obj_laws.specs.Found.{noFace, faceOf, SamePolygon, SamePolygons, SameVertices, SameJob}
 use Rattle.obj_laws.proofs.FieldLaws.{vec-drop, vec-back, entry-feature, entry-index, entry-first, entry-count, entry-surface, trailer-edition, trailer-vertices, trailer-polygons, trailer-back}
 use Rattle.obj_laws.proofs.PlaceLaws.{Written, written, firstOf, trailer, vertex-place, entry-place, job-place, trailer-place}
+use Rattle.obj_laws.proofs.JobLaws.{job-in, name-in}
 
 -- ---- runs of corners
 module _ (text : List ℕ) where
@@ -76,10 +78,6 @@ module _ (text job : List ℕ) (w : Written text job) where
   file-back =
       trailer-back (partFile text job) place (length (cornersOf text)) (length (facesOf text)) ends (trailer-place text job (w .job-length))
       (omega (arith, w .polygons-to))
-
-  -- the job's bytes are those that were given
-  pub file-job : take 128 (drop (entryAt (length (cornersOf text)) (length (facesOf text))) (partFile text job)) ≡ job
-  file-job = ap (take 128) (job-place text job) ∙ take-at job (trailer text job) 128 (w .job-length)
 
   -- ---- a vertex
   pub file-vertex : (i : ℕ) → i < length (cornersOf text) → vecAt (partFile text job) (24 * i) ≡ vertexOf text (getD (cornersOf text) i 0)
@@ -160,6 +158,16 @@ module _ (text job : List ℕ) (w : Written text job) where
     first = λ p h. part-first-is p (below-polygons p h);
   }
 
+  -- ---- the job
+  pub job-at-is : entryAt (vertexCount (partFile text job)) (polygonCount (partFile text job)) ≡ entryAt (length (cornersOf text)) (length (facesOf text))
+  job-at-is = rw (file-vertices, file-polygons)
+
+  written-job : SameJob job (partOf (partFile text job))
+  written-job = record {
+    job-is = part-job (partFile text job) ∙ ap (jobAt (partFile text job)) job-at-is ∙ job-in (partFile text job) job (trailer text job) _ (w .job-length) (job-place text job);
+    name-is = λ h. part-name (partFile text job) ∙ ap (nameAt (partFile text job)) job-at-is ∙ name-in (partFile text job) job (trailer text job) _ (w .job-length) (job-place text job) h;
+  }
+
 -- ---- where no refusal of item 1 is met, so that the file is written
 -- "length .. 24V + 80P + 144"
 pub same-length : (text job : List ℕ) (room : ℕ) → objRefusal text (length job) room ≡ 0 → length (partFile text job) ≡ sizeOf (length (cornersOf text)) (length (facesOf text))
@@ -173,7 +181,10 @@ same-polygons text job room h = written-polygons text job (written text job room
 pub same-vertices : (text job : List ℕ) (room : ℕ) → objRefusal text (length job) room ≡ 0 → SameVertices text (partOf (partFile text job))
 same-vertices text job room h = written-vertices text job (written text job room h)
 
--- "the job that the caller gives as 128 bytes"
-pub same-job : (text job : List ℕ) (room : ℕ) → objRefusal text (length job) room ≡ 0
+-- "the job that the caller gives as 128 bytes", byte for byte, and as it is read
+pub same-bytes : (text job : List ℕ) (room : ℕ) → objRefusal text (length job) room ≡ 0
     → take 128 (drop (entryAt (length (cornersOf text)) (length (facesOf text))) (partFile text job)) ≡ job
-same-job text job room h = file-job text job (written text job room h)
+same-bytes text job room h = ap (take 128) (job-place text job) ∙ take-at job (trailer text job) 128 (written text job room h .job-length)
+
+pub same-job : (text job : List ℕ) (room : ℕ) → objRefusal text (length job) room ≡ 0 → SameJob job (partOf (partFile text job))
+same-job text job room h = written-job text job (written text job room h)

@@ -7,26 +7,27 @@ use native.Mathlib.Nat.{le-trans, le-of-eq}
 use native.Mathlib.Numerals.{add-one}
 use native.Mathlib.Omega.{arith}
 use lib.Dec.{eqb, ltb}
-use lib.ListN.{length}
+use lib.ListN.{length, getD}
 use borrow.Author.Tests.{eq-eqb, le-leb, le-ltb}
 use Rattle.num_float.proofs.Tests.{and-true}
 use Rattle.list_laws.proofs.Below.{all-by, sum-none, sum-more}
-use Rattle.file_field.specs.Test.{zeroWords}
+use Rattle.file_field.specs.Test.{isPoint, zeroWords}
 use Rattle.file_job_ok.specs.Rules.{jobGood}
 use Rattle.file_part.specs.Layout.{entryAt}
 use Rattle.file_part.specs.Part.{countAt, partOf}
 use Rattle.file_ok.specs.declared.verdict.Verdict.{Verdict}
 use Rattle.file_ok.specs.declared.verdict.Verdict.the-variants.{Accepted, BadJob, BadVertex, FlatPolygon, TooManyFaces}
-use Rattle.file_ok.specs.Rules.{verticesGood, surfaceGood, runStart, runGood, entryGood, polygonGood, polygonsGood}
+use Rattle.file_ok.specs.Rules.{vertexGood, verticesGood, surfaceGood, runStart, runGood, entryGood, polygonGood, polygonsGood}
 use Rattle.file_ok.specs.Verdict.{number, tooLarge, fitted, contentVerdict, verdictOf}
 use Rattle.solid_faces.specs.Faces.{someFlat, tooManyFaces, bodyVerdict}
-use Rattle.obj_text.specs.Text.{facesOf, cornersFrom, cornersOf}
+use Rattle.obj_text.specs.Text.{facesOf, cornersFrom, cornersOf, vertexOf}
 use Rattle.obj_text.proofs.BoundLaws.{corners-all}
 use Rattle.obj_part.specs.File.{partFile, objRefusal}
-use Rattle.obj_laws.specs.Refusals.{CanMeet, none, five, six, eight, nine}
+use Rattle.obj_laws.specs.Refusals.{cornersGood, textVerdict, CanMeet, none, five, six, eight, nine}
 use Rattle.obj_laws.proofs.FieldLaws.{entry-kind, entry-zero, entry-unused}
-use Rattle.obj_laws.proofs.PlaceLaws.{Written, written, firstOf, entry-place}
-use Rattle.obj_laws.proofs.Polygons.{run-more, run-inside, bounded, file-length, file-edition, file-vertices, file-polygons, file-back, file-first, file-count}
+use Rattle.obj_laws.proofs.PlaceLaws.{Written, written, firstOf, trailer, entry-place, job-place}
+use Rattle.obj_laws.proofs.JobLaws.{all-same, job-good-in}
+use Rattle.obj_laws.proofs.Polygons.{run-more, run-inside, bounded, file-length, file-edition, file-vertices, file-polygons, file-back, file-vertex, file-first, file-count}
 
 -- a plane whose seven unused fields are zero
 flat-good : (s : List ℕ) (at kind : ℕ) → kind ≡ 0 → zeroWords s (at + 24) 7 ≡ true → surfaceGood kind s at ≡ true
@@ -109,10 +110,16 @@ module _ (text job : List ℕ) (w : Written text job) where
   unfolding verdictOf
   verdict-is = rw (long, eq-eqb _ _ (file-edition text job w), file-vertices text job w, file-polygons text job w, small, fits)
 
-  pub written-verdict : verdictOf (partFile text job) ≡
-      cond (not (jobGood (partFile text job) (entryAt (length (cornersOf text)) (length (facesOf text))))) BadJob
-      (cond (not (verticesGood (partFile text job) (length (cornersOf text)))) BadVertex Accepted)
-  written-verdict = verdict-is ∙ content-is
+  vertices-are : verticesGood (partFile text job) (length (cornersOf text)) ≡ cornersGood text
+  unfolding verticesGood vertexGood cornersGood
+  vertices-are =
+      all-same (length (cornersOf text)) (vertexGood (partFile text job)) (λ i. isPoint (vertexOf text (getD (cornersOf text) i 0)))
+      (λ i h. ap isPoint (file-vertex text job w i h))
+
+  written-verdict : verdictOf (partFile text job) ≡ textVerdict text job
+  unfolding textVerdict
+  written-verdict =
+      verdict-is ∙ content-is ∙ rw (job-good-in (partFile text job) job (trailer text job) _ (w .job-length) (job-place text job), vertices-are)
 
 -- ---- with the two tests of the body behind them
 abbrev orBody : Verdict → Bool → Bool → Verdict
@@ -131,16 +138,15 @@ unfolding bodyVerdict
 body-is s = refl
 
 -- ---- where no refusal of item 1 is met, so that the file is written
--- 5 where the job is out of its rules, else 6 where a coordinate is, and none of 1, 2, 3, 4 and 7
-pub verdict-of-written : (text job : List ℕ) (room : ℕ) → objRefusal text (length job) room ≡ 0 → verdictOf (partFile text job) ≡
-    cond (not (jobGood (partFile text job) (entryAt (length (cornersOf text)) (length (facesOf text))))) BadJob
-    (cond (not (verticesGood (partFile text job) (length (cornersOf text)))) BadVertex Accepted)
+-- 5 where the job given is out of its rules, else 6 where a corner is, and none of 1, 2, 3, 4 and 7
+pub verdict-of-written : (text job : List ℕ) (room : ℕ) → objRefusal text (length job) room ≡ 0 → verdictOf (partFile text job) ≡ textVerdict text job
 verdict-of-written text job room h = written-verdict text job (written text job room h)
 
 -- "The written file can meet 5, 6, 8 and 9 when it is checked"
 pub can-meet : (text job : List ℕ) (room : ℕ) → objRefusal text (length job) room ≡ 0 → CanMeet (number (bodyVerdict (partFile text job)))
+unfolding textVerdict
 can-meet text job room h =
     let s = partFile text job in
     subst (λ (v : Verdict). CanMeet (number v))
     (sym (body-is s ∙ ap (λ (v : Verdict). orBody v (someFlat (partOf s)) (tooManyFaces (partOf s))) (verdict-of-written text job room h)))
-    (one-of (jobGood s (entryAt (length (cornersOf text)) (length (facesOf text)))) (verticesGood s (length (cornersOf text))) (someFlat (partOf s)) (tooManyFaces (partOf s)))
+    (one-of (jobGood job 0) (cornersGood text) (someFlat (partOf s)) (tooManyFaces (partOf s)))
