@@ -10,7 +10,7 @@ pub enum Severity {
     Note,
 }
 
-// The rules of all processes, in the byte order of their names. Nothing yields `NotClosed` yet.
+// The rules of all processes, in the byte order of their names.
 pub enum Rule {
     DeepHole,
     DeepInsideCorner,

@@ -24,7 +24,7 @@ pub record Placed (s : List ℕ) (at : Regions) : Type 0 where
   pub polygons : at .polygons ≡ polygonCount s
   pub vertices : at .vertices ≡ vertexCount s
 
--- the u32 scratch. Bodies and volumes are found for SLA and SLS alone, and segments where a rule asks for edges: what a process does not ask for is
+-- the u32 scratch. Bodies and volumes are found for SLA and SLS alone, segments where a process asks for them: what it does not ask for is
 -- not computed, and nothing is said of its cells
 pub record Words (t : Part) (at : Regions) (words : List ℕ) : Type 0 where
   pub labels : at .bodies ≡ true → Labels t words

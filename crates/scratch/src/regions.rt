@@ -13,7 +13,7 @@ pub const SCANNED: usize = 16;
 
 // What a process asks for of a body past its faces, planes and areas: what it does not ask for is not computed.
 pub struct Stages {
-    // the shared segments: machining and sheet metal
+    // the shared segments
     pub segments: bool,
     // the bodies and their volumes: SLA and SLS
     pub bodies: bool,
