@@ -1,0 +1,2 @@
+-- What a packed file stands for.
+pub mod Packed
