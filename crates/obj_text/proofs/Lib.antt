@@ -3,3 +3,5 @@
 pub mod LineLaws
 -- the tally, line by line, and what it tells of the whole text (`judged`)
 pub mod TallyLaws
+-- bounds on what a text says that neither 14 nor 15 refuses (`face-bounded`, `corner-inside`)
+pub mod BoundLaws
