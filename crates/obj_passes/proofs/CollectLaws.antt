@@ -19,10 +19,10 @@ use Rattle.obj_line.specs.declared.line.Corners.{Corners}
 use Rattle.obj_line.specs.declared.line.Line.{Line}
 use Rattle.obj_line.specs.declared.line.Line.the-variants as Line
 use Rattle.obj_line.specs.Split.{fieldsOf}
-use Rattle.obj_line.specs.Form.{Form, vertex, face, group, skipped, other, isPositive, allPositive, vertexForm, faceForm, groupForm, fieldsForm, formOf, lineOf}
+use Rattle.obj_line.specs.Form.{Form, vertex, face, group, skipped, other, allPositive, vertexForm, faceForm, groupForm, fieldsForm, formOf, lineOf}
 use Rattle.obj_line.specs.Work.{fieldsAfter}
 use Rattle.obj_line.proofs.SplitLaws.{fields-are}
-use Rattle.obj_text.specs.Text.{formsOf, Face, facesFrom, facesOf, cornersFrom, cornersOf}
+use Rattle.obj_text.specs.Text.{formsOf, facesFrom, facesOf, cornersFrom, cornersOf}
 use Rattle.obj_tables.specs.Tables.{cellOf, Pushed}
 use Rattle.obj_part.specs.Bytes.{le32, entryBytes}
 use Rattle.obj_part.specs.File.{entriesFrom}

@@ -1,5 +1,4 @@
 -- `obj_passes::fill::fill` meets its contract: the last window is flushed.
-use borrow.Author.Needs.{needs}
 use mathlib.Core.Path.{sym, _∙_}
 use Rattle.obj_passes.proofs.FillLaws.{filled}
 use native.Mathlib.Omega.{arith}
