@@ -1,0 +1,3 @@
+-- OBJ text and a job as a part file.
+pub mod Converts
+pub mod Work

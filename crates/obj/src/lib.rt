@@ -1,0 +1,3 @@
+// OBJ text as a part file.
+pub mod convert;
+pub mod write;

@@ -1,0 +1,3 @@
+// The passes over OBJ text that is not refused.
+pub mod collect;
+pub mod fill;
