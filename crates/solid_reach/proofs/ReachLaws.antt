@@ -233,6 +233,9 @@ reach-same l m i h =
       h (i + 5) (omega arith) (omega arith),
     )
 
+pub holds-same : {r r′ : Reach} {s s′ : Segment} → r ≡ r′ → s ≡ s′ → Holds r s → Holds r′ s′
+holds-same {r} {r′} {s} {s′} er es h = subst (λ (x : Reach). Holds x s′) er (subst (Holds r) es h)
+
 -- ---- the cases of `gap`, `lower` and `higher`, in the words of their tests
 module _ (l h p : Float) where
   pub gap-below : lt zero (sub binary64 l p) ≡ true → sub binary64 l p ≡ gapOf l h p

@@ -13,6 +13,7 @@
 --   place-edge, place-between, group-first      what stands at the places of a face and of a group
 -- KeptLaws: ordered-kept                the edges still stand after changes past them
 -- PackLaws: edges-sorted                what is packed is sorted; and the steps of `pack`
+-- BoxLaws: the steps of `boxes`
 -- LeastLaws: same-least, least-distance         the least of some squared distances, in whatever order
 -- FewEdges: items-most                  there are no more items than sides
 -- PutLaws: still-standing, still-ranked, and the steps of `order`. Passing, ItemLaws, PlaceLaws: the items and their places
@@ -25,5 +26,6 @@ pub mod PackLaws
 pub mod LeastLaws
 pub mod EdgeLaws
 pub mod TourLaws
+pub mod BoxLaws
 pub mod NeighbourLaws
 pub mod KeptLaws
