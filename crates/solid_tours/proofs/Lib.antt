@@ -3,7 +3,7 @@
 --   of-edge, edge-of                    the edges of a face are the sides of which `isEdgeOf` holds
 --   between-edge, edge-between          so those between two faces; between-of, between-leads, leads-between: and `isBetween`
 --   first-edge                          the first between two faces is `firstBetween`
---   edge-least, between-least           the least distances are `edgeDistance` and `betweenDistance`
+--   edge-least, between-least           the least distances are `edgeDistance` and `betweenDistance`; between-beyond: not below the root of a square that none is below
 -- NeighbourLaws
 --   neighbour-is, neighbour-over        the list of neighbours is `neighbourAt` from 0 on, up to the first 0
 --   neighbour-mem                       every face that an edge leads to is in it

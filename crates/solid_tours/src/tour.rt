@@ -9,7 +9,7 @@ ghost use Rattle.file_part.specs.Part.{partOf};
 ghost use Rattle.solid_faces.specs.Faces.{facesOf};
 ghost use Rattle.solid_distance.specs.Kept.{squareTo, segmentAt};
 ghost use Rattle.solid_edges.specs.Distance.{edgeDistance, betweenDistance};
-ghost use Rattle.solid_tours.specs.Tours.{leastSquare, leastDistance};
+ghost use Rattle.solid_tours.specs.Tours.{edgesBetween, leastSquare};
 ghost use Rattle.solid_tours.specs.Kept.{itemCount, boxCount, itemKey, keyStart, edgeOrder, sidesAt, EdgesSorted, EdgesOrdered, Counted, FacePlaces, RestPlaces, GroupPlaces, NextGroup, ItemAt};
 use crate::boxes::box_count;
 use crate::boxes::is_spared;
@@ -155,22 +155,23 @@ fn run_square(
     least_square(file, words, reals, at, places, p, least)
 }
 
-// The least distance of point p from the edges at these places, box by box: one root of the least square gives the same f64.
-fn boxed_distance(
+// The same at any places, box by box.
+fn boxed_square(
     file: &[u8],
     words: &[u32],
     reals: &[f64],
     edges: Edges,
     places: Places,
     p: Vec3,
+    least: f64,
 ) -> f64
     requires { ⌜ EdgesOrdered (now file) (edges .at) (now words) (now reals) ⌝ ∗ ⌜ Counted (partOf (now file)) edges ⌝ }
     requires { ⌜ places .start ≤ places .end ⌝ ∗ ⌜ places .end ≤ itemCount (partOf (now file)) ⌝ }
-    ensures { λ r. ⌜ r ≡ leastDistance (partOf (now (file .entry))) p (sidesAt (partOf (now (file .entry))) (edges .at) (now (words .entry)) (places .start) (places .end)) ⌝ }
+    ensures { λ r. ⌜ r ≡ leastSquare (partOf (now (file .entry))) p least (sidesAt (partOf (now (file .entry))) (edges .at) (now (words .entry)) (places .start) (places .end)) ⌝ }
 {
     let end = places.end;
     let count = box_count(edges.items, edges.at.vertices);
-    let mut least = f64::from_bits(0x7ff0_0000_0000_0000);
+    let mut best = least;
     let mut j = places.start;
     while j < end {
         let stop = run_end(j / 32 * 32, end);
@@ -178,13 +179,13 @@ fn boxed_distance(
             start: j,
             end: stop,
         };
-        least = run_square(file, words, reals, edges, count, run, p, least);
+        best = run_square(file, words, reals, edges, count, run, p, best);
         j = stop;
     }
-    num_root::sqrt(least)
+    best
 }
 
-// The least distance of point p from the edges of face f; infinity where it has none.
+// The least distance of point p from the edges of face f; infinity where it has none. One root of the least square gives the same f64.
 pub fn edge_distance(
     file: &[u8],
     words: &[u32],
@@ -197,7 +198,28 @@ pub fn edge_distance(
     ensures { λ r. ⌜ r ≡ edgeDistance (partOf (now (file .entry))) f p ⌝ }
 {
     let places = face_places(file, words, reals, edges, f);
-    boxed_distance(file, words, reals, edges, places, p)
+    let least = f64::from_bits(0x7ff0_0000_0000_0000);
+    num_root::sqrt(boxed_square(file, words, reals, edges, places, p, least))
+}
+
+// The least of `least` and the squared distances of point p from the edges between two faces.
+pub fn between_square(
+    file: &[u8],
+    words: &[u32],
+    reals: &[f64],
+    edges: Edges,
+    group: Group,
+    p: Vec3,
+    least: f64,
+) -> f64
+    requires { ⌜ EdgesOrdered (now file) (edges .at) (now words) (now reals) ⌝ ∗ ⌜ Counted (partOf (now file)) edges ⌝ ∗ ⌜ GroupPlaces (partOf (now file)) (edges .at) (now words) group ⌝ }
+    ensures { λ r. ⌜ r ≡ leastSquare (partOf (now (file .entry))) p least (edgesBetween (partOf (now (file .entry))) (group .face) (group .other)) ⌝ }
+{
+    let places = Places {
+        start: group.start,
+        end: group.end,
+    };
+    boxed_square(file, words, reals, edges, places, p, least)
 }
 
 // The least distance of point p from the edges between two faces.
