@@ -1,6 +1,6 @@
 -- What is nearest to a hole: the marks of the flat faces around it, one edge, and a tour of a face's neighbours.
 use mathlib.Core.Path.{_≡_, refl, sym, ap, ap₂, _∙_, subst}
-use mathlib.Core.Bool.{Bool, true, false, not, _||_, cond}
+use mathlib.Core.Bool.{Bool, true, false, not, _&&_, _||_, cond}
 use mathlib.Core.List.{List, [], _∷_, _++_, append-nil}
 use Prim.Native.Nat.{ℕ, _*_, _^_, _≤_, _<_}
 use native.Mathlib.Omega.{arith}
@@ -8,7 +8,12 @@ use borrow.Author.Tests.{eq-eqb, ne-eqb, eqb-true, eqb-false}
 use lib.Dec.{eqb}
 use lib.ListN.{length, getD, set, replicate, length-set, length-replicate}
 use lib.Seq.{getD-set-same, getD-set-other}
-use lib.Ieee.{Float, binary64, sub, lt}
+use lib.Ieee.{Float, binary64, sub, lt, le}
+use Rattle.num_float.specs.Sign.{plus-zero}
+use Rattle.num_float.proofs.Tests.{refuted, contrary}
+use Rattle.num_float.proofs.Order.{lt-numbers, le-numbers, le-trans, le-not-lt}
+use Rattle.num_root.specs.Root.{root}
+use Rattle.num_order.proofs.Sums.{sub-le}
 use Rattle.list_laws.proofs.Fill.{filled-at}
 use Rattle.file_part.specs.Part.{Part, partOf}
 use Rattle.solid_faces.specs.Faces.{facesOf}
@@ -18,15 +23,16 @@ use Rattle.solid_flat.specs.Flat.{isFlatFace}
 use Rattle.solid_edges.specs.Distance.{betweenDistance}
 use Rattle.solid_tours.specs.declared.tour.Places.{Places}
 use Rattle.solid_tours.specs.declared.tour.Group.{Group}
-use Rattle.solid_tours.specs.Tours.{edgesBetween, overNeighbours}
+use Rattle.solid_tours.specs.Tours.{edgesBetween, overNeighbours, leastSquare}
 use Rattle.solid_tours.specs.Kept.{EdgesOrdered, FacePlaces, RestPlaces, NextGroup, TourTo}
+use Rattle.solid_tours.proofs.EdgeLaws.{between-beyond}
 use Rattle.solid_tours.proofs.PlaceLaws.{readable}
 use Rattle.solid_tours.proofs.TourLaws.{tour-start, tour-more, tour-end, rest-all}
 use Rattle.round_all.specs.declared.round.Round.{Round}
 use Rattle.rule_holes.specs.declared.nearest.Gap.{Gap}
 use Rattle.rule_holes.specs.declared.nearest.Nearest.{Nearest}
 use Rattle.rule_holes.specs.Nearest.{platesOf, isAmong, gapBetween, isLeftOut, gapTo, gapsBeside, gapsFrom, gapsOf, nothing, nearer, nearestFrom, nearestOf}
-use Rattle.rule_holes.specs.Work.{Plates, NearestThere}
+use Rattle.rule_holes.specs.Work.{Plates, NearestThere, NoNearer}
 use Rattle.rule_holes.proofs.ChoiceLaws.{chosen-first, chosen-second, or-true, or-false}
 
 -- ---- the nearer of two
@@ -240,6 +246,39 @@ module _ (t : Part) (hole : Round) (plates : List ℕ) (marks : Plates t (hole .
       ∙ sym (nearest-one best (record { gap = sub binary64 (betweenDistance t face other (hole .centre)) (hole .radius); other = other }))
       ∙ sym (ap₂ (λ (a b : Bool). nearestFrom best (cond (a || b) [] (record { gap = sub binary64 (betweenDistance t face other (hole .centre)) (hole .radius); other = other } ∷ [])))
       (ne-eqb other (hole .face) own) in-none)
+
+  -- and where it is no nearer
+  pub group-farther : (g : Group) → g .face ≡ face → g .other ≡ other → (other ≡ hole .face → ⊥) → (getD plates other 0 ≡ 1 → ⊥) → NoNearer t hole g best → best ≡ nearestFrom best all
+  unfolding gapBetween
+  group-farther g ef eo own mark far =
+      let gap = sub binary64 (betweenDistance t face other (hole .centre)) (hole .radius) in
+      let less : lt gap (best .gap) ≡ false
+      = subst (λ (k : ℕ). lt (sub binary64 (betweenDistance t face k (hole .centre)) (hole .radius)) (best .gap) ≡ false) eo
+      (subst (λ (k : ℕ). lt (sub binary64 (betweenDistance t k (g .other) (hole .centre)) (hole .radius)) (best .gap) ≡ false) ef (far .not-less)) in
+      group-nearer (betweenDistance t face other (hole .centre)) best own mark refl
+      (nearer-left best (record { gap = gap; other = other }) (ap₂ (λ (a b : Bool). not a || b) (far .found) less))
+
+-- ---- a square that none is below, and the gap of its root
+pub no-nearer : (t : Part) (hole : Round) (group : Group) (best : Nearest) (x y d : Float) → y ≡ leastSquare t (hole .centre) x (edgesBetween t (group .face) (group .other)) → d ≡ root x →
+    (((best .found && le plus-zero x) && not (lt y x)) && le (best .gap) (sub binary64 d (hole .radius))) ≡ true → NoNearer t hole group best
+unfolding gapBetween
+no-nearer t hole group best x y d ey ed h = go (best .found) (le plus-zero x) (lt y x) refl refl refl h
+  where
+    go : (a b c : Bool) → best .found ≡ a → le plus-zero x ≡ b → lt y x ≡ c → (((a && b) && not c) && le (best .gap) (sub binary64 d (hole .radius))) ≡ true → NoNearer t hole group best
+    go false b c ea eb ec k = absurd (contrary k refl)
+    go true false c ea eb ec k = absurd (contrary k refl)
+    go true true true ea eb ec k = absurd (contrary k refl)
+    go true true false ea eb ec k =
+        let far : le d (betweenDistance t (group .face) (group .other) (hole .centre)) ≡ true
+        = subst (λ (z : Float). le z (betweenDistance t (group .face) (group .other) (hole .centre)) ≡ true) (sym ed)
+        (between-beyond t (group .face) (group .other) (hole .centre) x eb (subst (λ (z : Float). lt z x ≡ false) ey ec)) in
+        record { found = ea; not-less = beyond (best .gap) d (betweenDistance t (group .face) (group .other) (hole .centre)) (hole .radius) k far }
+      where
+        beyond : (g d b r : Float) → le g (sub binary64 d r) ≡ true → le d b ≡ true → lt (sub binary64 b r) g ≡ false
+        beyond g d b r k far =
+            refuted (lt (sub binary64 b r) g) (λ w.
+            let low = sub-le d b r (le-numbers g (sub binary64 d r) k .1) (lt-numbers (sub binary64 b r) g w .0) far in
+            contrary w (le-not-lt g (sub binary64 b r) (le-trans g (sub binary64 d r) (sub binary64 b r) k low)))
 
 -- it is a face of the part
 pub nearer-kept : (t : Part) (best : Nearest) (other : ℕ) → other < facesOf t → (d : Float) (r : Nearest) → r ≡ nearer best (record { gap = d; other = other }) →

@@ -4,12 +4,13 @@ use mathlib.Core.Bool.{Bool, true, false, cond}
 use mathlib.Core.List.{List}
 use Prim.Native.Nat.{ℕ, _+_, _*_, _^_, _≤_, _<_}
 use lib.ListN.{length, getD}
-use lib.Ieee.{Float}
+use lib.Ieee.{Float, lt}
 use Rattle.num_float.specs.Sign.{NonNeg}
 use Rattle.num_float.specs.Within.{Within}
 use Rattle.list_groups.specs.Groups.{joined}
 use Rattle.file_part.specs.Part.{Part}
 use Rattle.solid_faces.specs.Faces.{facesOf}
+use Rattle.solid_tours.specs.declared.tour.Group.{Group}
 use Rattle.round_all.specs.declared.round.Round.{Round}
 use Rattle.round_all.specs.Round.{roundOf}
 use Rattle.measure_sizes.specs.Reading.{ReadingBounds}
@@ -18,7 +19,7 @@ use Rattle.fault_row.specs.Faults.{FaultsPut}
 use Rattle.fault_text.specs.Meaning.{faultOf, GoodRow}
 use Rattle.rule_holes.specs.declared.nearest.Nearest.{Nearest}
 use Rattle.rule_holes.specs.declared.holes.Limits.{Limits}
-use Rattle.rule_holes.specs.Nearest.{platesOf, isAmong}
+use Rattle.rule_holes.specs.Nearest.{platesOf, isAmong, gapBetween}
 use Rattle.rule_holes.specs.Holes.{minHole, needOf, smallHole, gapFault, holeFaults}
 
 -- 1 for each flat face around the hole h, 0 for the other faces
@@ -29,6 +30,11 @@ pub record Plates (t : Part) (h : ℕ) (plates : List ℕ) : Type 0 where
 -- what is nearest is a face of the part
 unfoldable pub NearestThere : Part → Nearest → Type 0
 NearestThere t n = n .other < facesOf t
+
+-- the edge between the two faces of a group is no nearer than the nearest so far
+pub record NoNearer (t : Part) (hole : Round) (group : Group) (best : Nearest) : Type 0 where
+  pub found : best .found ≡ true
+  pub not-less : lt (gapBetween t hole (group .face) (group .other)) (best .gap) ≡ false
 
 -- the limits of a sheet
 pub record LimitsOf (t : Part) (thick : Float) (l : Limits) : Type 0 where

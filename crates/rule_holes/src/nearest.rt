@@ -1,6 +1,6 @@
 // What is nearest to a hole: over the edges of the flat faces around it.
 ghost use mathlib.Core.Path.{_≡_};
-ghost use mathlib.Core.Bool.{cond};
+ghost use mathlib.Core.Bool.{true, cond};
 ghost use Prim.Native.Nat.{_≤_, _<_};
 ghost use lib.ListN.{length, set};
 ghost use Rattle.file_part.specs.Part.{partOf};
@@ -11,7 +11,7 @@ ghost use Rattle.solid_tours.specs.Tours.{edgesBetween};
 ghost use Rattle.solid_tours.specs.Kept.{EdgesOrdered, GroupPlaces};
 ghost use Rattle.solid_tours.specs.Kept as tours;
 ghost use Rattle.rule_holes.specs.Nearest.{nearer, nearestFrom, gapTo, gapsBeside, gapsFrom, nearestOf};
-ghost use Rattle.rule_holes.specs.Work.{Plates, NearestThere};
+ghost use Rattle.rule_holes.specs.Work.{Plates, NearestThere, NoNearer};
 use list_cells::fill_words;
 use round_all::round::Round;
 use scratch::regions::Regions;
@@ -20,6 +20,7 @@ use solid_tours::tour::Edges;
 use solid_tours::tour::Group;
 use solid_tours::tour::Places;
 use solid_tours::tour::between_distance;
+use solid_tours::tour::between_square;
 use solid_tours::tour::face_places;
 use solid_tours::tour::next_group;
 
@@ -88,6 +89,29 @@ pub fn put_plates(
     }
 }
 
+// Whether the edge of a group is known to be no nearer than the nearest so far: none of its squared distances is below one that gives at least as much.
+fn is_no_nearer(
+    file: &[u8],
+    words: &[u32],
+    reals: &[f64],
+    edges: Edges,
+    hole: Round,
+    group: Group,
+    best: Nearest,
+) -> bool
+    requires { ⌜ EdgesOrdered (now file) (edges .at) (now words) (now reals) ⌝ ∗ ⌜ tours.Counted (partOf (now file)) edges ⌝ ∗ ⌜ GroupPlaces (partOf (now file)) (edges .at) (now words) group ⌝ }
+    ensures { λ r. ⌜ (r ≡ true → NoNearer (partOf (now (file .entry))) hole group best) ⌝ }
+{
+    let radius = hole.radius;
+    let centre = hole.centre;
+    let reach = best.gap + radius;
+    // a little more than the square, whose root may be a little less than what it is the square of
+    let square = reach * reach * 1.000000001;
+    let least = between_square(file, words, reals, edges, group, centre, square);
+    let gap = num_root::sqrt(square) - radius;
+    best.found & (0.0 <= square) & !(least < square) & (best.gap <= gap)
+}
+
 // With the edge of a group, under a flat face around the hole.
 fn with_group(
     file: &[u8],
@@ -99,7 +123,7 @@ fn with_group(
     group: Group,
     best: Nearest,
 ) -> Nearest
-    requires { ⌜ EdgesOrdered (now file) (edges .at) (now words) (now reals) ⌝ ∗ ⌜ GroupPlaces (partOf (now file)) (edges .at) (now words) group ⌝ }
+    requires { ⌜ EdgesOrdered (now file) (edges .at) (now words) (now reals) ⌝ ∗ ⌜ tours.Counted (partOf (now file)) edges ⌝ ∗ ⌜ GroupPlaces (partOf (now file)) (edges .at) (now words) group ⌝ }
     requires { ⌜ Plates (partOf (now file)) (hole .face) (now plates) ⌝ ∗ ⌜ NearestThere (partOf (now file)) best ⌝ }
     ensures { λ r. ⌜ r ≡ nearestFrom best (gapTo (partOf (now (file .entry))) hole (group .face) (group .other) (edgesBetween (partOf (now (file .entry))) (group .face) (group .other))) ⌝ ∗ ⌜ NearestThere (partOf (now (file .entry))) r ⌝ }
 {
@@ -108,6 +132,9 @@ fn with_group(
         return best;
     }
     if plates[other] == 1 {
+        return best;
+    }
+    if is_no_nearer(file, words, reals, edges, hole, group, best) {
         return best;
     }
     let at = edges.at;

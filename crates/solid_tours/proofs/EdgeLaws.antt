@@ -7,8 +7,13 @@ use Prim.Native.Nat.{ℕ, zero, suc, _<_, _≤_}
 use native.Mathlib.Omega.{arith}
 use lib.Dec.{eqb}
 use lib.ListN.{length, getD}
+use lib.Ieee.{Float, inf, lt, le}
 use borrow.Author.Tests.{eq-eqb, eqb-true}
+use Rattle.num_float.specs.Sign.{plus-zero, NonNeg}
 use Rattle.num_float.proofs.Tests.{refuted, and-true, and-left, and-right}
+use Rattle.num_float.proofs.Order.{le-numbers, not-lt-le}
+use Rattle.num_root.specs.Root.{root}
+use Rattle.num_norm.proofs.RootOrder.{root-mono}
 use Rattle.math.specs.declared.Vec3.{Vec3}
 use Rattle.list_laws.proofs.Count.{lowest-is}
 use Rattle.list_groups.specs.Groups.{passing}
@@ -24,10 +29,10 @@ use Rattle.solid_edges.specs.Distance.{edgeDistance, betweenDistance}
 use Rattle.solid_edges.proofs.EdgeLaws.{other-below}
 use Rattle.solid_ranks.specs.Ranks.{rankOf, faceOfRank}
 use Rattle.solid_ranks.proofs.RankLaws.{rank-below, face-of-rank}
-use Rattle.solid_tours.specs.Tours.{edgesBetween, edgesOf, leastDistance}
+use Rattle.solid_tours.specs.Tours.{edgesBetween, edgesOf, leastSquare, leastDistance}
 use Rattle.solid_tours.proofs.Passing.{passing-zero, passing-step, mem-passing, passing-mem}
 use Rattle.solid_tours.proofs.PlaceLaws.{edges-joined}
-use Rattle.solid_tours.proofs.LeastLaws.{least-distance}
+use Rattle.solid_tours.proofs.LeastLaws.{least-number, least-beyond, least-distance}
 
 -- ---- the edges between two faces
 pub between-edge : (t : Part) (f g : ℕ) {s : ℕ} → List·Memᴰ s (edgesBetween t f g) → (s < t .vertices) × (isBetween t f g s ≡ true)
@@ -81,6 +86,15 @@ pub between-least : (t : Part) (f g : ℕ) (p : Vec3) → leastDistance t p (edg
 unfolding betweenDistance
 between-least t f g p =
     least-distance t p (isBetween t f g) (t .vertices) (edgesBetween t f g) (λ s m. between-edge t f g m) (λ s l e. edge-between t f g s l e)
+
+-- where no square between two faces is below x, their distance is not below its root
+pub between-beyond : (t : Part) (f g : ℕ) (p : Vec3) (x : Float) → NonNeg x → lt (leastSquare t p x (edgesBetween t f g)) x ≡ false → le (root x) (betweenDistance t f g p) ≡ true
+unfolding leastDistance
+between-beyond t f g p x pos none =
+    let l = edgesBetween t f g in
+    let n = le-numbers plus-zero x pos .1 in
+    subst (λ (z : Float). le (root x) z ≡ true) (between-least t f g p)
+    (root-mono x (leastSquare t p (inf false) l) pos (not-lt-le (leastSquare t p (inf false) l) x (least-number t p l) n (least-beyond t p x l n none)))
 
 -- ---- the first between two faces
 -- the lowest that passes stands first

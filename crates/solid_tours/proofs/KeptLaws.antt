@@ -11,13 +11,14 @@ use Rattle.list_groups.specs.Order.{Keyed, Grouped}
 use Rattle.file_part.specs.Part.{partOf}
 use Rattle.solid_faces.specs.Faces.{facesOf}
 use Rattle.solid_distance.proofs.KeptLaws.{segment-same}
+use Rattle.solid_reach.proofs.ReachLaws.{reach-same, holds-same}
 use Rattle.scratch.specs.declared.regions.Regions.{Regions}
 use Rattle.scratch.proofs.StandingLaws.{placed-vertices, standing-kept}
 use Rattle.solid_ranks.proofs.KeptLaws.{ranked-kept}
-use Rattle.solid_tours.specs.Kept.{itemCount, itemSide, itemKey, edgeKeys, edgeOrder, sideSegment, packedAt, OrderedTo}
+use Rattle.solid_tours.specs.Kept.{itemCount, itemSide, itemKey, edgeKeys, edgeOrder, sideSegment, packedAt, boxAt, OrderedTo}
 use Rattle.solid_tours.proofs.FewEdges.{items-most}
 
-module _ (s : List ℕ) (at : Regions) (words words′ : List ℕ) (reals reals′ : List Float) {done : ℕ} (o : OrderedTo s at words reals done) (w : Outside 0 (at .readings) (at .ranks) words words′)
+module _ (s : List ℕ) (at : Regions) (words words′ : List ℕ) (reals reals′ : List Float) {done boxes : ℕ} (o : OrderedTo s at words reals done boxes) (w : Outside 0 (at .readings) (at .ranks) words words′)
     (r : Outside nan (at .falling) (at .directions) reals reals′) where
   keys-same : edgeKeys at reals′ ≡ edgeKeys at reals
   keys-same =
@@ -28,7 +29,7 @@ module _ (s : List ℕ) (at : Regions) (words words′ : List ℕ) (reals reals�
       outside-part 0 (at .readings) (at .ranks) (at .sorted) (at .chain) words words′ (omega (arith, o .standing .placed .laid))
       (omega (arith, o .standing .placed .laid, o .standing .words-room)) w
 
-  pub ordered-kept : OrderedTo s at words′ reals′ done
+  pub ordered-kept : OrderedTo s at words′ reals′ done boxes
   ordered-kept =
       record {
         standing = standing-kept s at (at .ranks) (at .directions) words words′ reals reals′ (o .standing) w r;
@@ -41,4 +42,7 @@ module _ (s : List ℕ) (at : Regions) (words words′ : List ℕ) (reals reals�
         packed = λ j l.
             segment-same reals reals′ (packedAt at j) (λ i a b. r .above i (omega (arith, a, o .standing .placed .laid))) ∙ o .packed j l
             ∙ ap (λ (xs : List ℕ). sideSegment (partOf s) (itemSide (partOf s) (getD xs j 0))) (sym order-same);
+        boxed = λ b j l from to inside.
+            holds-same (sym (reach-same reals reals′ (boxAt (partOf s) at b) (λ i a c. r .above i (omega (arith, a, o .standing .placed .laid)))))
+            (sym (segment-same reals reals′ (packedAt at j) (λ i a c. r .above i (omega (arith, a, o .standing .placed .laid))))) (o .boxed b j l from to inside);
       }

@@ -59,6 +59,14 @@ below-zero : lt (inf true) plus-zero ≡ true
 unfolding lt ofBits
 below-zero = refl
 
+-- nothing is above infinity
+above-all : (x : Float) → lt (inf false) x ≡ false
+unfolding lt
+above-all nan = refl
+above-all (inf true) = refl
+above-all (inf false) = refl
+above-all (fin s m e) = refl
+
 -- two of them of which neither is less are one
 plus-same : (x y : Float) → Plus x → Plus y → lt x y ≡ false → lt y x ≡ false → x ≡ y
 unfolding isNan lt
@@ -158,6 +166,30 @@ module _ (t : Part) (p : Vec3) where
   inf-number : isNan (inf false) ≡ false
   unfolding isNan
   inf-number = refl
+
+  pub least-number : (l : List ℕ) → isNan (leastSquare t p (inf false) l) ≡ false
+  least-number l = least-is (inf false) l inf-number .number
+
+  -- where none is less than x, from x on, the least is not
+  pub least-beyond : (x : Float) (l : List ℕ) → isNan x ≡ false → lt (leastSquare t p x l) x ≡ false → lt (leastSquare t p (inf false) l) x ≡ false
+  least-beyond x l n none = go (least-is (inf false) l inf-number .of-some)
+    where
+      y : Float
+      y = leastSquare t p x l
+
+      z : Float
+      z = leastSquare t p (inf false) l
+
+      h : Least x l y
+      h = least-is x l n
+
+      not-above : (s : ℕ) → List·Memᴰ s l → lt (square s) x ≡ false
+      not-above s m =
+          refuted (lt (square s) x) (λ w. contrary (lt-le-trans (square s) x y w (not-lt-le y x (h .number) n none)) (h .none-less s m))
+
+      go : (z ≡ inf false) ⊎ ((s : ℕ) × List·Memᴰ s l × (z ≡ square s)) → lt z x ≡ false
+      go (inl e) = ap (λ (k : Float). lt k x) e ∙ above-all x
+      go (inr w) = ap (λ (k : Float). lt k x) (w .2) ∙ not-above (w .0) (w .1)
 
   -- the order does not matter
   pub same-least : (l k : List ℕ) → ((s : ℕ) → List·Memᴰ s l → List·Memᴰ s k) → ((s : ℕ) → List·Memᴰ s k → List·Memᴰ s l)

@@ -21,12 +21,13 @@ use Rattle.solid_segments.specs.Sides.{toOf}
 use Rattle.solid_distance.specs.declared.kept.Segment.{Segment}
 use Rattle.solid_distance.specs.Kept.{segmentOf, squareTo, segmentAt, putSegment}
 use Rattle.solid_distance.proofs.KeptLaws.{square-is, put-same, put-kept, segment-same}
+use Rattle.solid_reach.specs.Reach.{Holds, reachAt}
 use Rattle.solid_edges.specs.Distance.{sideSquare}
 use Rattle.scratch.specs.declared.regions.Regions.{Regions}
 use Rattle.scratch.specs.Standing.{Standing}
 use Rattle.scratch.proofs.StandingLaws.{standing-kept}
-use Rattle.solid_tours.specs.Kept.{itemCount, itemSide, itemKey, edgeKeys, edgeOrder, sideSegment, packedAt, OrderedTo, EdgesSorted, EdgesPut, ItemAt}
-use Rattle.solid_tours.specs.Work.{SortedPut, PackedPut}
+use Rattle.solid_tours.specs.Kept.{itemCount, itemSide, itemKey, edgeKeys, edgeOrder, sideSegment, packedAt, boxCount, boxAt, OrderedTo, EdgesSorted, EdgesPut, ItemAt}
+use Rattle.solid_tours.specs.Work.{SortedPut, PackedPut, BoxesPut}
 use Rattle.solid_tours.proofs.PlaceLaws.{most}
 
 -- the squared distance from a side, by its segment
@@ -53,7 +54,7 @@ segment-read file s to a b x e ea eb ex =
 
 module _ (s : List ℕ) (at : Regions) (words : List ℕ) where
   -- what is sorted needs no packing
-  pub edges-sorted : {reals : List Float} {done : ℕ} → OrderedTo s at words reals done → EdgesSorted s at words reals
+  pub edges-sorted : {reals : List Float} {done boxes : ℕ} → OrderedTo s at words reals done boxes → EdgesSorted s at words reals
   edges-sorted o =
       record {
         standing = o .standing;
@@ -63,12 +64,15 @@ module _ (s : List ℕ) (at : Regions) (words : List ℕ) where
         keyed = o .keyed;
         grouped = o .grouped;
         packed = λ j l. absurd (omega (arith, l));
+        boxed = λ b j l. absurd (omega (arith, l));
       }
 
   -- changes of the packed cells leave the order; more or fewer places may be packed then
-  ordered-still : (reals reals′ : List Float) (done next : ℕ) → OrderedTo s at words reals done → Outside nan (at .free) (at .reals) reals reals′ →
-      ((j : ℕ) → j < next → segmentAt reals′ (packedAt at j) ≡ sideSegment (partOf s) (itemSide (partOf s) (getD (edgeOrder at words) j 0))) → OrderedTo s at words reals′ next
-  ordered-still reals reals′ done next o r packed =
+  pub ordered-still : (reals reals′ : List Float) (done next boxes put : ℕ) → OrderedTo s at words reals done boxes → Outside nan (at .free) (at .reals) reals reals′ →
+      ((j : ℕ) → j < next → segmentAt reals′ (packedAt at j) ≡ sideSegment (partOf s) (itemSide (partOf s) (getD (edgeOrder at words) j 0))) →
+      ((b j : ℕ) → b < put → 32 * b ≤ j → j < 32 * b + 32 → j < itemCount (partOf s) → Holds (reachAt reals′ (boxAt (partOf s) at b)) (segmentAt reals′ (packedAt at j))) →
+      OrderedTo s at words reals′ next put
+  ordered-still reals reals′ done next boxes put o r packed boxed =
       let laid = o .standing .placed .laid in
       let same : edgeKeys at reals′ ≡ edgeKeys at reals
       = outside-part nan (at .free) (at .reals) (at .directions) (at .free) reals reals′ (omega arith) (omega (arith, laid, o .standing .reals-room)) r in
@@ -81,10 +85,11 @@ module _ (s : List ℕ) (at : Regions) (words : List ℕ) where
         keyed = subst (λ (l : List Float). Keyed l (itemKey (partOf s)) (itemCount (partOf s)) (facesOf (partOf s) * facesOf (partOf s))) (sym same) (o .keyed);
         grouped = o .grouped;
         packed = packed;
+        boxed = boxed;
       }
 
   -- there is room for all
-  module _ (reals : List Float) {done : ℕ} (o : OrderedTo s at words reals done) (j : ℕ) (low : j < itemCount (partOf s)) where
+  module _ (reals : List Float) {done boxes : ℕ} (o : OrderedTo s at words reals done boxes) (j : ℕ) (low : j < itemCount (partOf s)) where
     packed-room : packedAt at j + 7 ≤ at .reals
     packed-room = omega (arith, low, most s at words reals o, o .standing .placed .laid)
 
@@ -92,7 +97,7 @@ module _ (s : List ℕ) (at : Regions) (words : List ℕ) where
     packed-inside = omega (arith, packed-room, o .standing .reals-room)
 
   -- ---- one place more
-  module _ (reals : List Float) (j : ℕ) (o : OrderedTo s at words reals j) (low : j < itemCount (partOf s)) where
+  module _ (reals : List Float) (j : ℕ) (o : OrderedTo s at words reals j 0) (low : j < itemCount (partOf s)) where
     pub pack-one : (r to : ℕ) (a b : Vec3) (x : Segment) (reals′ : List Float) → ItemAt (partOf s) at words j r → to ≡ toOf (partOf s) r → a ≡ vecAt s (24 * r) →
         b ≡ vecAt s (24 * to) → x ≡ segmentOf a b → reals′ ≡ putSegment reals (packedAt at j) x → PackedPut s at words reals reals′ (j + 1)
     pack-one r to a b x reals′ item e ea eb ex put =
@@ -101,7 +106,7 @@ module _ (s : List ℕ) (at : Regions) (words : List ℕ) where
         let here : segmentAt reals′ (packedAt at j) ≡ sideSegment (partOf s) (itemSide (partOf s) (getD (edgeOrder at words) j 0))
         = ap (λ (l : List Float). segmentAt l (packedAt at j)) put ∙ put-same reals (packedAt at j) x (packed-inside reals o j low) ∙ segment-read s r to a b x e ea eb ex
         ∙ ap (sideSegment (partOf s)) (item .side) in
-        record { ordered = ordered-still reals reals′ j (j + 1) o kept (λ i l. go only here i l (lt-or-ge i j)); kept = kept }
+        record { ordered = ordered-still reals reals′ j (j + 1) 0 0 o kept (λ i l. go only here i l (lt-or-ge i j)) (λ b i l. absurd (omega (arith, l))); kept = kept }
       where
         go : {reals′ : List Float} → Outside nan (packedAt at j) (packedAt at j + 7) reals reals′ →
             segmentAt reals′ (packedAt at j) ≡ sideSegment (partOf s) (itemSide (partOf s) (getD (edgeOrder at words) j 0)) → (i : ℕ) → i < j + 1 → (i < j) ⊎ (j ≤ i) →
@@ -125,16 +130,17 @@ module _ (s : List ℕ) (at : Regions) (words : List ℕ) where
       let all : i ≡ itemCount (partOf s) = omega (arith, count, l, h) in
       subst (PackedPut s at words reals reals′) all put
 
--- sorted, then packed
-pub edges-put : (s : List ℕ) (at : Regions) (words words′ : List ℕ) (reals reals1 reals2 : List Float) (m : ℕ) → SortedPut s at words words′ reals reals1 m →
-    PackedPut s at words′ reals1 reals2 (itemCount (partOf s)) → EdgesPut s at words words′ reals reals2 m
-edges-put s at words words′ reals reals1 reals2 m a b =
+-- sorted, then packed, then boxes around them
+pub edges-put : (s : List ℕ) (at : Regions) (words words′ : List ℕ) (reals reals1 reals2 reals3 : List Float) (m : ℕ) → SortedPut s at words words′ reals reals1 m →
+    PackedPut s at words′ reals1 reals2 (itemCount (partOf s)) → BoxesPut s at words′ reals2 reals3 (boxCount (itemCount (partOf s)) (at .vertices)) →
+    EdgesPut s at words words′ reals reals3 m
+edges-put s at words words′ reals reals1 reals2 reals3 m a b c =
     let laid = a .sorted .standing .placed .laid in
     record {
       count = a .count;
       few = a .few;
-      ordered = b .ordered;
+      ordered = c .ordered;
       words-kept = a .words-kept;
-      reals-kept = outside-then nan _ _ reals reals1 reals2 (outside-wide nan _ _ _ _ reals reals1 (omega arith) (omega (arith, laid)) (a .reals-kept))
-          (outside-wide nan _ _ _ _ reals1 reals2 (omega (arith, laid)) (omega arith) (b .kept));
+      reals-kept = outside-then nan _ _ reals reals1 reals3 (outside-wide nan _ _ _ _ reals reals1 (omega arith) (omega (arith, laid)) (a .reals-kept))
+          (outside-wide nan _ _ _ _ reals1 reals3 (omega (arith, laid)) (omega arith) (outside-then nan _ _ reals1 reals2 reals3 (b .kept) (c .kept)));
     }

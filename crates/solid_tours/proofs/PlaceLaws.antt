@@ -99,7 +99,7 @@ edges-joined t f =
     (λ r h. unless-self (edgesBetween t f (faceOfRank t r)))
 
 -- ---- the sorted items
-module _ (s : List ℕ) (at : Regions) (words : List ℕ) (reals : List Float) {done : ℕ} (o : OrderedTo s at words reals done) where
+module _ (s : List ℕ) (at : Regions) (words : List ℕ) (reals : List Float) {done boxes : ℕ} (o : OrderedTo s at words reals done boxes) where
   abbrev t : Part
   t = partOf s
 

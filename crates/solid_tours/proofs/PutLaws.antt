@@ -374,6 +374,7 @@ module _ (s : List ℕ) (at : Regions) (words words1 : List ℕ) (reals reals1 :
             keyed = subst (λ (k : ℕ). Keyed (edgeKeys at reals1) (itemKey v) k (n * n)) counted keyed;
             grouped = subst₂ (λ (k : ℕ) (l : List ℕ). Grouped (itemKey v) k (n * n) l) counted (sym order-is) (sorted .grouped (itemKey v) (n * n) keyed);
             packed = λ j l. absurd (omega (arith, l));
+            boxed = λ b j l. absurd (omega (arith, l));
           };
           words-kept = words-kept;
           reals-kept = all .reals-kept;

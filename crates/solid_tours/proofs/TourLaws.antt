@@ -3,11 +3,11 @@ use mathlib.Core.Path.{_≡_, refl, sym, ap, _∙_, subst}
 use mathlib.Core.Bool.{true, false}
 use mathlib.Core.Logic.{_⊎_, inl, inr}
 use mathlib.Core.List.{List, [], _∷_, _++_, map, map-append, List·Memᴰ, List·Memᴰ·head, List·Memᴰ·tail, List·Memᴰ·not-nil, List·Memᴰ·cases-cons}
-use Prim.Native.Nat.{ℕ, suc, _+_, _-_, _*_, _≤_, _<_}
+use Prim.Native.Nat.{ℕ, zero, suc, _+_, _-_, _*_, _≤_, _<_}
 use native.Mathlib.Nat.{le-antisymm}
 use native.Mathlib.Numerals.{add-one}
 use native.Mathlib.Omega.{arith}
-use lib.Ieee.{Float, inf, binary64, ofBits}
+use lib.Ieee.{Float, inf, binary64, lt, ofBits}
 use lib.ListN.{length, getD, take, drop}
 use borrow.Author.Tests.{ltb-true, ltb-false}
 use Rattle.num_float.specs.Order.{lesser}
@@ -29,6 +29,7 @@ use Rattle.file_ok.specs.Verdict.{Readable}
 use Rattle.solid_faces.specs.Faces.{facesOf}
 use Rattle.solid_distance.specs.declared.kept.Segment.{Segment}
 use Rattle.solid_distance.specs.Kept.{squareTo}
+use Rattle.solid_edges.specs.Distance.{sideSquare}
 use Rattle.solid_edges.specs.Edges.{isEdgeOf, isBetween, leadsTo}
 use Rattle.solid_edges.specs.Neighbours.{firstBetween}
 use Rattle.scratch.specs.declared.regions.Regions.{Regions}
@@ -42,7 +43,7 @@ use Rattle.solid_tours.proofs.ItemLaws.{face-inside, other-inside, item
 use Rattle.solid_tours.proofs.ItemLaws as items
 use Rattle.solid_tours.proofs.PlaceLaws.{part-keys, readable, most, item-below, start-mono-key, start-inside, in-group, row-inside}
 use Rattle.solid_tours.proofs.PackLaws.{side-square}
-use Rattle.solid_tours.proofs.LeastLaws.{least-more, least-nil}
+use Rattle.solid_tours.proofs.LeastLaws.{least-more, inf-bits}
 use Rattle.solid_tours.proofs.EdgeLaws.{between-edge, of-edge, first-edge}
 
 -- ---- the edges at some places
@@ -87,26 +88,91 @@ sides-first t at words i e r h room item =
     ap (map (itemSide t)) (part-first (edgeOrder at words) 0 i e h room)
     ∙ ap (λ (k : ℕ). k ∷ map (itemSide t) (part (i + 1) e (edgeOrder at words))) (sym (item .side))
 
--- ---- the loop of `least_distance`
+least-none : (t : Part) (p : Vec3) (z : Float) → z ≡ leastSquare t p z []
+unfolding leastSquare
+least-none t p z = refl
+
+-- ---- the loop of `least_square`
 module _ (t : Part) (p : Vec3) (at : Regions) (words : List ℕ) where
-  pub least-start : (i : ℕ) → ofBits binary64 0x7ff0_0000_0000_0000 ≡ leastSquare t p (inf false) (sidesAt t at words i i)
-  least-start i = least-nil t p ∙ ap (leastSquare t p (inf false)) (sym (sides-none t at words i))
+  abbrev squareAt : ℕ → Float
+  squareAt j = sideSquare t p (itemSide t (getD (edgeOrder at words) j 0))
 
-  pub least-next : (i j : ℕ) (x y : Float) (q : Segment) → i ≤ j → j < length (edgeOrder at words) → x ≡ leastSquare t p (inf false) (sidesAt t at words i j)
-      → q ≡ sideSegment t (itemSide t (getD (edgeOrder at words) j 0)) → y ≡ lesser x (squareTo p q) → y ≡ leastSquare t p (inf false) (sidesAt t at words i (j + 1))
-  least-next i j x y q l h ex eq ey =
+  pub least-start : (z : Float) (i : ℕ) → z ≡ leastSquare t p z (sidesAt t at words i i)
+  least-start z i = least-none t p z ∙ ap (leastSquare t p z) (sym (sides-none t at words i))
+
+  least-step : (z : Float) (i j : ℕ) → i ≤ j → j < length (edgeOrder at words)
+      → leastSquare t p z (sidesAt t at words i (j + 1)) ≡ lesser (leastSquare t p z (sidesAt t at words i j)) (squareAt j)
+  least-step z i j l h =
+      ap (leastSquare t p z) (sides-more t at words i j l h) ∙ least-more t p z (sidesAt t at words i j) (itemSide t (getD (edgeOrder at words) j 0))
+
+  pub least-next : (z : Float) (i j : ℕ) (x y : Float) (q : Segment) → i ≤ j → j < length (edgeOrder at words) → x ≡ leastSquare t p z (sidesAt t at words i j)
+      → q ≡ sideSegment t (itemSide t (getD (edgeOrder at words) j 0)) → y ≡ lesser x (squareTo p q) → y ≡ leastSquare t p z (sidesAt t at words i (j + 1))
+  least-next z i j x y q l h ex eq ey =
       let r = itemSide t (getD (edgeOrder at words) j 0) in
-      ey ∙ ap (λ (z : Float). lesser z (squareTo p q)) ex
-      ∙ ap (lesser (leastSquare t p (inf false) (sidesAt t at words i j))) (ap (squareTo p) eq ∙ side-square t p r)
-      ∙ sym (least-more t p (inf false) (sidesAt t at words i j) r)
-      ∙ ap (leastSquare t p (inf false)) (sym (sides-more t at words i j l h))
+      ey ∙ ap (λ (w : Float). lesser w (squareTo p q)) ex
+      ∙ ap (lesser (leastSquare t p z (sidesAt t at words i j))) (ap (squareTo p) eq ∙ side-square t p r)
+      ∙ sym (least-step z i j l h)
 
-  pub least-end : (i j e : ℕ) (x r : Float) → j ≤ e → e ≤ j → x ≡ leastSquare t p (inf false) (sidesAt t at words i j) → r ≡ root x
+  pub least-stop : (z : Float) (i j e : ℕ) (x : Float) → j ≤ e → e ≤ j → x ≡ leastSquare t p z (sidesAt t at words i j) → x ≡ leastSquare t p z (sidesAt t at words i e)
+  least-stop z i j e x a b ex =
+      let same : j ≡ e = omega (arith, a, b) in
+      ex ∙ ap (λ (k : ℕ). leastSquare t p z (sidesAt t at words i k)) same
+
+  -- ---- one run of places after another
+  join-step : (z : Float) (i j n : ℕ) → i ≤ j → j + n ≤ length (edgeOrder at words)
+      → leastSquare t p (leastSquare t p z (sidesAt t at words i j)) (sidesAt t at words j (j + n)) ≡ leastSquare t p z (sidesAt t at words i (j + n))
+  join-step z i j zero l h =
+      let here : j + 0 ≡ j = omega arith in
+      ap (λ (k : ℕ). leastSquare t p (leastSquare t p z (sidesAt t at words i j)) (sidesAt t at words j k)) here
+      ∙ sym (least-start (leastSquare t p z (sidesAt t at words i j)) j)
+      ∙ ap (λ (k : ℕ). leastSquare t p z (sidesAt t at words i k)) (sym here)
+  join-step z i j (suc n) l h =
+      let here : j + suc n ≡ j + n + 1 = omega arith in
+      let x = leastSquare t p z (sidesAt t at words i j) in
+      ap (λ (k : ℕ). leastSquare t p x (sidesAt t at words j k)) here
+      ∙ least-step x j (j + n) (omega arith) (omega (arith, h))
+      ∙ ap (λ (w : Float). lesser w (squareAt (j + n))) (join-step z i j n l (omega (arith, h)))
+      ∙ sym (least-step z i (j + n) (omega (arith, l)) (omega (arith, h)))
+      ∙ ap (λ (k : ℕ). leastSquare t p z (sidesAt t at words i k)) (sym here)
+
+  pub least-join : (z : Float) (i j e : ℕ) (x y : Float) → i ≤ j → j ≤ e → e ≤ length (edgeOrder at words) → x ≡ leastSquare t p z (sidesAt t at words i j)
+      → y ≡ leastSquare t p x (sidesAt t at words j e) → y ≡ leastSquare t p z (sidesAt t at words i e)
+  least-join z i j e x y l h k ex ey =
+      let there : j + (e - j) ≡ e = omega (arith, h) in
+      ey ∙ ap (λ (w : Float). leastSquare t p w (sidesAt t at words j e)) ex
+      ∙ ap (λ (q : ℕ). leastSquare t p (leastSquare t p z (sidesAt t at words i j)) (sidesAt t at words j q)) (sym there)
+      ∙ join-step z i j (e - j) l (omega (arith, there, k))
+      ∙ ap (λ (q : ℕ). leastSquare t p z (sidesAt t at words i q)) there
+
+  -- ---- a run of places none of which is nearer
+  lesser-kept : (x y : Float) → lt y x ≡ false → lesser x y ≡ x
+  lesser-kept x y h = rw h
+
+  spared-step : (x : Float) (i n : ℕ) → i + n ≤ length (edgeOrder at words) → ((j : ℕ) → i ≤ j → j < i + n → lt (squareAt j) x ≡ false)
+      → leastSquare t p x (sidesAt t at words i (i + n)) ≡ x
+  spared-step x i zero h far =
+      let here : i + 0 ≡ i = omega arith in
+      ap (λ (k : ℕ). leastSquare t p x (sidesAt t at words i k)) here ∙ sym (least-start x i)
+  spared-step x i (suc n) h far =
+      let here : i + suc n ≡ i + n + 1 = omega arith in
+      ap (λ (k : ℕ). leastSquare t p x (sidesAt t at words i k)) here
+      ∙ least-step x i (i + n) (omega arith) (omega (arith, h))
+      ∙ ap (λ (w : Float). lesser w (squareAt (i + n))) (spared-step x i n (omega (arith, h)) (λ j a b. far j a (omega (arith, b))))
+      ∙ lesser-kept x (squareAt (i + n)) (far (i + n) (omega arith) (omega arith))
+
+  pub least-spared : (x : Float) (i e : ℕ) → i ≤ e → e ≤ length (edgeOrder at words) → ((j : ℕ) → i ≤ j → j < e → lt (squareAt j) x ≡ false)
+      → x ≡ leastSquare t p x (sidesAt t at words i e)
+  least-spared x i e l h far =
+      let there : i + (e - i) ≡ e = omega (arith, l) in
+      sym (spared-step x i (e - i) (omega (arith, there, h)) (λ j a b. far j a (omega (arith, b, there))))
+      ∙ ap (λ (q : ℕ). leastSquare t p x (sidesAt t at words i q)) there
+
+  -- ---- from infinity on, and the root
+  pub least-end : (i j e : ℕ) (x r : Float) → j ≤ e → e ≤ j → x ≡ leastSquare t p (ofBits binary64 0x7ff0_0000_0000_0000) (sidesAt t at words i j) → r ≡ root x
       → r ≡ leastDistance t p (sidesAt t at words i e)
   unfolding leastDistance
   least-end i j e x r a b ex er =
-      let same : j ≡ e = omega (arith, a, b) in
-      er ∙ ap root (ex ∙ ap (λ (k : ℕ). leastSquare t p (inf false) (sidesAt t at words i k)) same)
+      er ∙ ap root (least-stop (ofBits binary64 0x7ff0_0000_0000_0000) i j e x a b ex ∙ ap (λ (z : Float). leastSquare t p z (sidesAt t at words i e)) (inf-bits t p))
 
 -- ---- the next neighbour
 module _ (s : List ℕ) (at : Regions) (words : List ℕ) (reals : List Float) (o : EdgesOrdered s at words reals) where

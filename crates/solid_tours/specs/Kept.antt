@@ -2,8 +2,8 @@
 use mathlib.Core.Path.{_≡_}
 use mathlib.Core.Bool.{true, cond}
 use mathlib.Core.List.{List, map}
-use Prim.Native.Nat.{ℕ, _+_, _*_, _/_, _%_, _≤_, _<_}
-use lib.Dec.{eqb}
+use Prim.Native.Nat.{ℕ, _+_, _-_, _*_, _/_, _%_, _≤_, _<_}
+use lib.Dec.{eqb, ltb}
 use lib.Ieee.{Float, nan}
 use lib.ListN.{length, getD}
 use Rattle.list_laws.specs.Region.{part, Outside}
@@ -14,6 +14,7 @@ use Rattle.solid_faces.specs.Faces.{facesOf}
 use Rattle.solid_segments.specs.Sides.{toOf}
 use Rattle.solid_distance.specs.declared.kept.Segment.{Segment}
 use Rattle.solid_distance.specs.Kept.{segmentOf, segmentAt}
+use Rattle.solid_reach.specs.Reach.{Holds, reachAt}
 use Rattle.solid_edges.specs.Edges.{faceOfSide, faceBeyond, isEdge}
 use Rattle.scratch.specs.declared.regions.Regions.{Regions}
 use Rattle.scratch.specs.Standing.{Standing}
@@ -68,8 +69,15 @@ sideSegment t s = segmentOf (t .vertex s) (t .vertex (toOf t s))
 abbrev pub packedAt : Regions → ℕ → ℕ
 packedAt at j = at .free + 7 * j
 
--- the edges are sorted, and those at the first k places are packed
-pub record OrderedTo (s : List ℕ) (at : Regions) (words : List ℕ) (reals : List Float) (k : ℕ) : Type 0 where
+-- behind the m segments stand boxes of 32 of them each, as many boxes as there is room for among v sides
+unfoldable pub boxCount : ℕ → ℕ → ℕ
+boxCount m v = cond (ltb (m / 32 + 1) ((7 * (v - m) + 1024) / 6)) (m / 32 + 1) ((7 * (v - m) + 1024) / 6)
+
+abbrev pub boxAt : Part → Regions → ℕ → ℕ
+boxAt t at b = at .free + 7 * itemCount t + 6 * b
+
+-- the edges are sorted, those at the first k places are packed, and the first n boxes are put
+pub record OrderedTo (s : List ℕ) (at : Regions) (words : List ℕ) (reals : List Float) (k n : ℕ) : Type 0 where
   pub standing : Standing s at words reals
   -- the shared segments are put
   pub edged : at .segments ≡ true
@@ -78,13 +86,15 @@ pub record OrderedTo (s : List ℕ) (at : Regions) (words : List ℕ) (reals : L
   pub keyed : Keyed (edgeKeys at reals) (itemKey (partOf s)) (itemCount (partOf s)) (facesOf (partOf s) * facesOf (partOf s))
   pub grouped : Grouped (itemKey (partOf s)) (itemCount (partOf s)) (facesOf (partOf s) * facesOf (partOf s)) (edgeOrder at words)
   pub packed : (j : ℕ) → j < k → segmentAt reals (packedAt at j) ≡ sideSegment (partOf s) (itemSide (partOf s) (getD (edgeOrder at words) j 0))
+  -- box b is around the edges at the places from 32b to before 32b + 32
+  pub boxed : (b j : ℕ) → b < n → 32 * b ≤ j → j < 32 * b + 32 → j < itemCount (partOf s) → Holds (reachAt reals (boxAt (partOf s) at b)) (segmentAt reals (packedAt at j))
 
 abbrev pub EdgesSorted : List ℕ → Regions → List ℕ → List Float → Type 0
-EdgesSorted s at words reals = OrderedTo s at words reals 0
+EdgesSorted s at words reals = OrderedTo s at words reals 0 0
 
 -- all that a tour asks for
 abbrev pub EdgesOrdered : List ℕ → Regions → List ℕ → List Float → Type 0
-EdgesOrdered s at words reals = OrderedTo s at words reals (itemCount (partOf s))
+EdgesOrdered s at words reals = OrderedTo s at words reals (itemCount (partOf s)) (boxCount (itemCount (partOf s)) (at .vertices))
 
 -- how many items there are; nothing else changed
 pub record EdgesPut (s : List ℕ) (at : Regions) (words words′ : List ℕ) (reals reals′ : List Float) (r : ℕ) : Type 0 where

@@ -1,18 +1,24 @@
 -- What the functions of this crate leave on the way. A reader may pass over it.
 use mathlib.Core.Path.{_≡_}
+use mathlib.Core.Bool.{Bool, false, not, cond}
 use mathlib.Core.List.{List}
 use Prim.Native.Nat.{ℕ, _+_, _*_, _≤_, _<_}
-use lib.Ieee.{Float, nan}
+use lib.Dec.{ltb}
+use lib.Ieee.{Float, nan, lt}
 use lib.ListN.{length, getD}
+use Rattle.math.specs.declared.Vec3.{Vec3}
 use Rattle.list_laws.specs.Region.{Outside}
 use Rattle.list_groups.specs.Groups.{passing}
 use Rattle.list_groups.specs.Order.{WholeIs}
 use Rattle.file_part.specs.Part.{Part, partOf}
 use Rattle.solid_faces.specs.Faces.{facesOf}
+use Rattle.solid_distance.specs.Kept.{segmentAt}
+use Rattle.solid_reach.specs.declared.reach.Reach.{Reach}
+use Rattle.solid_reach.specs.Reach.{Holds, gapSquare, reachAt}
 use Rattle.solid_edges.specs.Edges.{faceOfSide, faceBeyond, isEdge}
 use Rattle.scratch.specs.declared.regions.Regions.{Regions}
 use Rattle.solid_ranks.specs.Ranks.{rankOf}
-use Rattle.solid_tours.specs.Kept.{itemCount, OrderedTo, EdgesSorted}
+use Rattle.solid_tours.specs.Kept.{itemCount, packedAt, OrderedTo, EdgesSorted}
 
 -- the keys of an edge under its own face, and under the face beyond
 unfoldable pub nearKey : Part → ℕ → ℕ
@@ -49,7 +55,26 @@ pub record SortedPut (s : List ℕ) (at : Regions) (words words′ : List ℕ) (
   pub words-kept : Outside 0 (at .items) (at .chain) words words′
   pub reals-kept : Outside nan (at .directions) (at .free) reals reals′
 
+-- r is around the edges at the places from i to before e
+abbrev pub Around : Regions → List Float → ℕ → ℕ → Reach → Type 0
+Around at reals i e r = (j : ℕ) → i ≤ j → j < e → Holds r (segmentAt reals (packedAt at j))
+
+-- r is the lesser of a + 32 and e
+pub record RunEnd (a e r : ℕ) : Type 0 where
+  pub short : r ≤ a + 32
+  pub inside : r ≤ e
+  pub all : (j : ℕ) → j < a + 32 → j < e → j < r
+
+-- box b of `count` boxes is no nearer to p than the square x
+unfoldable pub isSpared : List Float → ℕ → ℕ → Vec3 → Float → ℕ → Bool
+isSpared reals count b p x place = cond (ltb b count) (not (lt (gapSquare p (reachAt reals place)) x)) false
+
 -- the edges at the first k places are packed
 pub record PackedPut (s : List ℕ) (at : Regions) (words : List ℕ) (reals reals′ : List Float) (k : ℕ) : Type 0 where
-  pub ordered : OrderedTo s at words reals′ k
+  pub ordered : OrderedTo s at words reals′ k 0
+  pub kept : Outside nan (at .free) (at .reals) reals reals′
+
+-- all are, and the first n boxes are put
+pub record BoxesPut (s : List ℕ) (at : Regions) (words : List ℕ) (reals reals′ : List Float) (n : ℕ) : Type 0 where
+  pub ordered : OrderedTo s at words reals′ (itemCount (partOf s)) n
   pub kept : Outside nan (at .free) (at .reals) reals reals′

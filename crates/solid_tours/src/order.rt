@@ -12,6 +12,7 @@ ghost use Rattle.scratch.specs.Standing.{Standing};
 ghost use Rattle.solid_ranks.specs.Kept.{Ranked};
 ghost use Rattle.solid_tours.specs.Kept.{EdgesPut};
 ghost use Rattle.solid_tours.specs.Work.{EdgePut, AllPut, SortedPut};
+use crate::boxes::put_boxes;
 use crate::pack::pack_edges;
 use list_cells::cell;
 use list_groups::sort_items;
@@ -97,8 +98,8 @@ fn sort_edges(file: &[u8], words: &mut [u32], reals: &mut [f64], at: Regions, n:
     m
 }
 
-// Sorts the edges of a part of n faces by face and by the face that they lead to, each under both its faces, and packs them in that order. How many
-// items there are.
+// Sorts the edges of a part of n faces by face and by the face that they lead to, each under both its faces, packs them in that order and
+// puts boxes around them. How many items there are.
 pub fn order_edges(
     file: &[u8],
     words: &mut [u32],
@@ -111,5 +112,6 @@ pub fn order_edges(
 {
     let m = sort_edges(file, words, reals, at, n);
     pack_edges(file, &words[..], reals, at, m);
+    put_boxes(file, &words[..], reals, at, m);
     m
 }

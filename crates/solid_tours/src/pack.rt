@@ -13,7 +13,7 @@ use solid_edges::edge::end_at;
 
 // Packs the edge at place j, where those before it are packed.
 fn pack_edge(file: &[u8], words: &[u32], reals: &mut [f64], at: Regions, j: usize)
-    requires { ⌜ OrderedTo (now file) at (now words) (now reals) j ⌝ ∗ ⌜ j < itemCount (partOf (now file)) ⌝ }
+    requires { ⌜ OrderedTo (now file) at (now words) (now reals) j 0 ⌝ ∗ ⌜ j < itemCount (partOf (now file)) ⌝ }
     ensures { λ r. ⌜ PackedPut (now (file .entry)) at (now (words .entry)) (now (reals .entry)) (now (reals .exit)) (j + 1) ⌝ }
 {
     let sides = at.sides;

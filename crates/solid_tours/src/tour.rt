@@ -1,6 +1,6 @@
 // A tour of the edges of one face, where they are sorted: its places, its neighbours one after the other, and distances from its edges.
 ghost use mathlib.Core.Path.{_≡_};
-ghost use Prim.Native.Nat.{_+_, _*_, _≤_, _<_};
+ghost use Prim.Native.Nat.{_+_, _*_, _/_, _≤_, _<_};
 ghost use lib.IntN.{pos};
 ghost use lib.ListN.{length, getD};
 ghost use lib.Ieee.{binary64, ofInt};
@@ -9,8 +9,11 @@ ghost use Rattle.file_part.specs.Part.{partOf};
 ghost use Rattle.solid_faces.specs.Faces.{facesOf};
 ghost use Rattle.solid_distance.specs.Kept.{squareTo, segmentAt};
 ghost use Rattle.solid_edges.specs.Distance.{edgeDistance, betweenDistance};
-ghost use Rattle.solid_tours.specs.Tours.{leastDistance};
-ghost use Rattle.solid_tours.specs.Kept.{itemCount, itemKey, keyStart, edgeOrder, sidesAt, EdgesSorted, EdgesOrdered, Counted, FacePlaces, RestPlaces, GroupPlaces, NextGroup, ItemAt};
+ghost use Rattle.solid_tours.specs.Tours.{edgesBetween, leastSquare};
+ghost use Rattle.solid_tours.specs.Kept.{itemCount, boxCount, itemKey, keyStart, edgeOrder, sidesAt, EdgesSorted, EdgesOrdered, Counted, FacePlaces, RestPlaces, GroupPlaces, NextGroup, ItemAt};
+use crate::boxes::box_count;
+use crate::boxes::is_spared;
+use crate::boxes::run_end;
 use crate::order::edge_key;
 use list_cells::cell;
 use list_groups::group_end;
@@ -105,29 +108,84 @@ fn nearer(reals: &[f64], place: usize, p: Vec3, least: f64) -> f64
     least
 }
 
-// The least distance of point p from the edges at these places: one root of the least square gives the same f64.
-fn least_distance(
+// The least of `least` and the squared distances of point p from the edges at these places.
+fn least_square(
     file: &[u8],
     words: &[u32],
     reals: &[f64],
     at: Regions,
     places: Places,
     p: Vec3,
+    least: f64,
 ) -> f64
     requires { ⌜ EdgesOrdered (now file) at (now words) (now reals) ⌝ ∗ ⌜ places .start ≤ places .end ⌝ ∗ ⌜ places .end ≤ itemCount (partOf (now file)) ⌝ }
-    ensures { λ r. ⌜ r ≡ leastDistance (partOf (now (file .entry))) p (sidesAt (partOf (now (file .entry))) at (now (words .entry)) (places .start) (places .end)) ⌝ }
+    ensures { λ r. ⌜ r ≡ leastSquare (partOf (now (file .entry))) p least (sidesAt (partOf (now (file .entry))) at (now (words .entry)) (places .start) (places .end)) ⌝ }
 {
     let end = places.end;
-    let mut least = f64::from_bits(0x7ff0_0000_0000_0000);
+    let mut best = least;
     let mut j = places.start;
     while j < end {
-        least = nearer(reals, at.free + 7 * j, p, least);
+        best = nearer(reals, at.free + 7 * j, p, best);
         j += 1;
     }
-    num_root::sqrt(least)
+    best
 }
 
-// The least distance of point p from the edges of face f; infinity where it has none.
+// The same at places of one box of `count`, which spares them all where it is no nearer.
+fn run_square(
+    file: &[u8],
+    words: &[u32],
+    reals: &[f64],
+    edges: Edges,
+    count: usize,
+    places: Places,
+    p: Vec3,
+    least: f64,
+) -> f64
+    requires { ⌜ EdgesOrdered (now file) (edges .at) (now words) (now reals) ⌝ ∗ ⌜ Counted (partOf (now file)) edges ⌝ ∗ ⌜ count ≡ boxCount (itemCount (partOf (now file))) (edges .at .vertices) ⌝ }
+    requires { ⌜ places .start ≤ places .end ⌝ ∗ ⌜ places .end ≤ itemCount (partOf (now file)) ⌝ ∗ ⌜ places .end ≤ places .start / 32 * 32 + 32 ⌝ }
+    ensures { λ r. ⌜ r ≡ leastSquare (partOf (now (file .entry))) p least (sidesAt (partOf (now (file .entry))) (edges .at) (now (words .entry)) (places .start) (places .end)) ⌝ }
+{
+    let at = edges.at;
+    let b = places.start / 32;
+    let place = at.free + 7 * edges.items + 6 * b;
+    if is_spared(reals, count, b, place, p, least) {
+        return least;
+    }
+    least_square(file, words, reals, at, places, p, least)
+}
+
+// The same at any places, box by box.
+fn boxed_square(
+    file: &[u8],
+    words: &[u32],
+    reals: &[f64],
+    edges: Edges,
+    places: Places,
+    p: Vec3,
+    least: f64,
+) -> f64
+    requires { ⌜ EdgesOrdered (now file) (edges .at) (now words) (now reals) ⌝ ∗ ⌜ Counted (partOf (now file)) edges ⌝ }
+    requires { ⌜ places .start ≤ places .end ⌝ ∗ ⌜ places .end ≤ itemCount (partOf (now file)) ⌝ }
+    ensures { λ r. ⌜ r ≡ leastSquare (partOf (now (file .entry))) p least (sidesAt (partOf (now (file .entry))) (edges .at) (now (words .entry)) (places .start) (places .end)) ⌝ }
+{
+    let end = places.end;
+    let count = box_count(edges.items, edges.at.vertices);
+    let mut best = least;
+    let mut j = places.start;
+    while j < end {
+        let stop = run_end(j / 32 * 32, end);
+        let run = Places {
+            start: j,
+            end: stop,
+        };
+        best = run_square(file, words, reals, edges, count, run, p, best);
+        j = stop;
+    }
+    best
+}
+
+// The least distance of point p from the edges of face f; infinity where it has none. One root of the least square gives the same f64.
 pub fn edge_distance(
     file: &[u8],
     words: &[u32],
@@ -140,10 +198,31 @@ pub fn edge_distance(
     ensures { λ r. ⌜ r ≡ edgeDistance (partOf (now (file .entry))) f p ⌝ }
 {
     let places = face_places(file, words, reals, edges, f);
-    least_distance(file, words, reals, edges.at, places, p)
+    let least = f64::from_bits(0x7ff0_0000_0000_0000);
+    num_root::sqrt(boxed_square(file, words, reals, edges, places, p, least))
 }
 
-// The same from the edges between two faces.
+// The least of `least` and the squared distances of point p from the edges between two faces.
+pub fn between_square(
+    file: &[u8],
+    words: &[u32],
+    reals: &[f64],
+    edges: Edges,
+    group: Group,
+    p: Vec3,
+    least: f64,
+) -> f64
+    requires { ⌜ EdgesOrdered (now file) (edges .at) (now words) (now reals) ⌝ ∗ ⌜ Counted (partOf (now file)) edges ⌝ ∗ ⌜ GroupPlaces (partOf (now file)) (edges .at) (now words) group ⌝ }
+    ensures { λ r. ⌜ r ≡ leastSquare (partOf (now (file .entry))) p least (edgesBetween (partOf (now (file .entry))) (group .face) (group .other)) ⌝ }
+{
+    let places = Places {
+        start: group.start,
+        end: group.end,
+    };
+    boxed_square(file, words, reals, edges, places, p, least)
+}
+
+// The least distance of point p from the edges between two faces.
 pub fn between_distance(
     file: &[u8],
     words: &[u32],
@@ -159,7 +238,8 @@ pub fn between_distance(
         start: group.start,
         end: group.end,
     };
-    least_distance(file, words, reals, at, places, p)
+    let least = f64::from_bits(0x7ff0_0000_0000_0000);
+    num_root::sqrt(least_square(file, words, reals, at, places, p, least))
 }
 
 // The next neighbour of face f, by rising ids, and the edges with it, from the first of the places that are left of the face.

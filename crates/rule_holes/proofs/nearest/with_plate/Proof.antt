@@ -31,7 +31,7 @@ next-group-requires c κs =
 with-group-requires : tie.Need-with-group-requires Inv-loop μ-loop
 with-group-requires c κs =
     let g = c .before .before .before .before .before .before .before .before .before .pre in
-    (g .0, (c .next-group .ensures .group, (g .1 .1 .1 .0, c .before .before .loop .inv .there)))
+    (g .0, (g .1 .0, (c .next-group .ensures .group, (g .1 .1 .1 .0, c .before .before .loop .inv .there))))
 
 loop-less : tie.Need-loop-less Inv-loop μ-loop
 loop-less c =

@@ -1,0 +1,2 @@
+-- Boxes around segments that are kept.
+pub mod Reach
