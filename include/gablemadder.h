@@ -21,7 +21,7 @@
 extern "C" {
 #endif
 
-/* ---- refusals: tested by rising number, and the first that applies is the answer */
+/* ---- refusals: tested by rising number, of OBJ text in the order 14 and 15 line by line, 3, 5, 16; the first that applies is the answer */
 enum {
     GABLEMADDER_ACCEPTED = 0,
     GABLEMADDER_TOO_SHORT = 1,           /* shorter than 144 bytes */
@@ -36,7 +36,10 @@ enum {
     GABLEMADDER_TOO_LITTLE_SCRATCH = 10, /* f64 scratch under 24P + 8V + 2,048 or u32 scratch under 12P + 8V + 1,024 */
     GABLEMADDER_TOO_MANY_FAULTS = 11,    /* more faults than fault rows lent, or over 2,048 */
     GABLEMADDER_REPORT_TOO_LONG = 12,    /* report longer than its buffer */
-    GABLEMADDER_NO_DECIMAL = 13          /* decimal text: number not finite, below 0, or 2^60 and more; places over 3; buffer under 24 bytes */
+    GABLEMADDER_NO_DECIMAL = 13,         /* decimal text: number not finite, below 0, or 2^60 and more; places over 3; buffer under 24 bytes */
+    GABLEMADDER_BAD_LINE = 14,           /* OBJ text: a line of any other form */
+    GABLEMADDER_UNDEFINED_VERTEX = 15,   /* OBJ text: a vertex number not yet defined */
+    GABLEMADDER_OUTPUT_TOO_SHORT = 16    /* OBJ text: output buffer shorter than the part file */
 };
 
 /* ---- how much there may be */
@@ -53,6 +56,7 @@ enum {
 /* ---- how much to lend for a part of V vertices and P polygons: elements, not bytes */
 #define GABLEMADDER_WORDS(V, P) (12 * (size_t)(P) + 8 * (size_t)(V) + 1024)
 #define GABLEMADDER_REALS(V, P) (24 * (size_t)(P) + 8 * (size_t)(V) + 2048)
+/* Bytes of its part file. */
 #define GABLEMADDER_FILE_LENGTH(V, P) (24 * (size_t)(V) + 80 * (size_t)(P) + 144)
 
 /* The u32 of a part file, little-endian, that ends so many bytes before the file's end. */
@@ -82,6 +86,13 @@ static inline size_t gablemadder_words(const uint8_t *file, size_t file_len) {
 static inline size_t gablemadder_reals(const uint8_t *file, size_t file_len) {
     size_t v, p;
     return gablemadder_counts(file, file_len, &v, &p) ? GABLEMADDER_REALS(v, p) : 0;
+}
+
+/* How many bytes to lend for the part file of an OBJ text of so many bytes: a face takes 8 of the text at the least, which make 152 of the file. */
+static inline size_t gablemadder_obj_room(size_t text_len) {
+    const size_t most = GABLEMADDER_FILE_LENGTH(GABLEMADDER_MOST_VERTICES, GABLEMADDER_MOST_POLYGONS);
+    size_t room = text_len < most ? 19 * (text_len + 1) + GABLEMADDER_FILE_LENGTH(0, 0) : most;
+    return room < most ? room : most;
 }
 
 /* A fault while the check runs; the caller only lends the rows. A row of zeros is no fault. */
@@ -116,6 +127,26 @@ typedef char gablemadder_fault_row_has_48_bytes[sizeof(gablemadder_fault_row) ==
  */
 uint32_t gablemadder_check(const uint8_t *file, size_t file_len, uint32_t *words, size_t words_len, double *reals, size_t reals_len,
                            gablemadder_fault_row *rows, size_t rows_len, uint8_t *report, size_t report_len, size_t *written);
+
+/*
+ * Makes a part file of Wavefront OBJ text and a job, which is the file's job as it stands, 128 bytes. Of the text are read
+ *
+ *   v x y z      a vertex: three decimals of 1 to 15 digits each, a sign before them or none, at most one point anywhere, no exponent
+ *   f a b c ..   a face: 3 to 64 numbers of vertices that stand above, from 1, no slashes: a polygon of the file, a plane of feature 1
+ *   g n          the index of the faces that follow, below 2^32; 0 before the first
+ *
+ * with one or more spaces before each field but the first, and empty lines and those that start with #, which are passed over. A line ends in a line
+ * feed or at the text's end. A decimal becomes the nearest f64.
+ *
+ *   0            the part file stands in the first bytes of `out` and their number in *written; the bytes after them are as they were
+ *   14, 15       the first line of another form, or with a vertex number not yet defined
+ *   3            over 16,384 corners of faces or over 4,096 faces
+ *   5            a job not of 128 bytes
+ *   16           `out` is shorter than the part file, GABLEMADDER_FILE_LENGTH(corners, faces)
+ *
+ * A refusal changes nothing. gablemadder_obj_room(text_len) bytes are always enough. What the job says is not looked at: gablemadder_check of the file can answer 5 for it, 6, 8 and 9 for its vertices and faces, and 10 to 12.
+ */
+uint32_t gablemadder_obj(const uint8_t *text, size_t text_len, const uint8_t *job, size_t job_len, uint8_t *out, size_t out_len, size_t *written);
 
 /*
  * Writes x with so many places, at most 3, rounded from its exact value, an exact half to the even digit; -0.0 is written as 0.0 is.

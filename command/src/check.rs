@@ -17,10 +17,7 @@ pub fn run(files: &[OsString], as_json: bool) -> Result<Status, String> {
         progress.at(number, &name);
         let answer = match input::read(path, MOST_BYTES, &mut file) {
             Err(why) => Answer::Unread(why),
-            Ok(()) => match checker.check(&file) {
-                Ok(report) => Answer::Report(report),
-                Err(refusal) => Answer::Refused(place::tell(&file, refusal)),
-            },
+            Ok(()) => Answer::of(&mut checker, &file),
         };
         worst = worst.max(answer.status());
         if let Some(why) = answer.complaint() {
@@ -35,14 +32,22 @@ pub fn run(files: &[OsString], as_json: bool) -> Result<Status, String> {
 }
 
 /// What there is to say of a file.
-enum Answer<'a> {
+pub enum Answer<'a> {
     Report(Report<'a>),
     Refused(Told),
     Unread(String),
 }
 
-impl Answer<'_> {
-    fn status(&self) -> Status {
+impl<'a> Answer<'a> {
+    /// The check of a part file.
+    pub fn of(checker: &'a mut Checker, file: &[u8]) -> Answer<'a> {
+        match checker.check(file) {
+            Ok(report) => Answer::Report(report),
+            Err(refusal) => Answer::Refused(place::tell(file, refusal)),
+        }
+    }
+
+    pub fn status(&self) -> Status {
         match self {
             Answer::Report(report) if report.findings().all(|found| found.severity != Severity::Error) => Status::Good,
             Answer::Report(_) => Status::HasErrors,
@@ -51,7 +56,7 @@ impl Answer<'_> {
     }
 
     /// Why there is no report.
-    fn complaint(&self) -> Option<String> {
+    pub fn complaint(&self) -> Option<String> {
         match self {
             Answer::Report(_) => None,
             Answer::Refused(told) => Some(told.to_string()),
@@ -60,7 +65,7 @@ impl Answer<'_> {
     }
 
     /// The report, after the file's name where there are several files.
-    fn text(&self, name: &str, is_named: bool) -> String {
+    pub fn text(&self, name: &str, is_named: bool) -> String {
         match self {
             Answer::Report(report) if is_named => format!("== {name}\n{report}"),
             Answer::Report(report) => report.to_string(),
@@ -68,7 +73,7 @@ impl Answer<'_> {
         }
     }
 
-    fn json(&self, name: &str) -> String {
+    pub fn json(&self, name: &str) -> String {
         match self {
             Answer::Report(report) => json::report(name, report),
             Answer::Refused(told) => json::refusal(name, told),

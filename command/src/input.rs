@@ -6,6 +6,8 @@ use std::io::{self, ErrorKind, Read};
 
 /// Bytes of the longest text of a part: 16,384 vertices take less than two millions of them.
 pub const MOST_TEXT: usize = 1 << 24;
+/// Bytes of the longest OBJ text, whose vertices need not be used.
+pub const MOST_OBJ: usize = 1 << 28;
 
 /// A file as it is called where people read it, on one line.
 pub fn name(path: &OsStr) -> Cow<'_, str> {

@@ -229,7 +229,7 @@ fn unquoted(text: &str) -> Result<String, (usize, &'static str, String)> {
 }
 
 /// A word as it is told, not too long.
-fn shown(word: &str) -> String {
+pub fn shown(word: &str) -> String {
     let inside = word.strip_prefix('"').and_then(|rest| rest.strip_suffix('"'));
     let word = inside.unwrap_or(word);
     match word.char_indices().nth(40) {

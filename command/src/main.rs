@@ -1,4 +1,4 @@
-//! The command `gablemadder`: checks part files, shows and makes them, draws them.
+//! The command `gablemadder`: checks part files, shows and makes them, from OBJ text too, and draws them.
 #![forbid(unsafe_code)]
 mod arguments;
 mod check;
@@ -6,6 +6,8 @@ mod input;
 mod json;
 mod line;
 mod make;
+mod obj;
+mod obj_place;
 mod output;
 mod part;
 mod picture;
@@ -14,6 +16,7 @@ mod progress;
 mod range;
 #[cfg(test)]
 mod round_trips;
+mod settings;
 mod show;
 
 use arguments::Command;
@@ -53,6 +56,7 @@ fn run(command: Command) -> Result<Status, String> {
         Command::Check { files, as_json } => return check::run(&files, as_json),
         Command::Show { file } => output::put(show::text(&read_part(&file)?.1).as_bytes())?,
         Command::Make { text } => output::put(&make(&text)?)?,
+        Command::Obj(order) => return obj::run(&order),
         Command::Picture { file, from } => return draw(&file, from),
     }
     Ok(Status::Good)
@@ -81,11 +85,17 @@ fn draw(name: &OsStr, from: Option<[f64; 3]>) -> Result<Status, String> {
     }
 }
 
+/// A part file on a terminal serves nobody.
+fn is_for_a_part_file(command: &str) -> Result<(), String> {
+    match io::stdout().is_terminal() {
+        true => Err(format!("gablemadder: a part file is no text: send it to a file, as in `gablemadder {command} > part.part`")),
+        false => Ok(()),
+    }
+}
+
 /// The part file that a text describes.
 fn make(name: &OsStr) -> Result<Vec<u8>, String> {
-    if io::stdout().is_terminal() {
-        return Err("gablemadder: a part file is no text: send it to a file, as in `gablemadder make part.txt > part.part`".to_string());
-    }
+    is_for_a_part_file("make part.txt")?;
     let mut text = Vec::new();
     input::read(name, input::MOST_TEXT, &mut text).map_err(|why| format!("{}: {why}", input::name(name)))?;
     make::part(&text).map(|part| part.bytes()).map_err(|wrong| format!("{}:{wrong}", input::name(name)))

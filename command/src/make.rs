@@ -1,7 +1,8 @@
 //! A part from its text, in the form that FORMAT.md lays down.
 use crate::line::{lines, Line, Wrong};
-use crate::part::{Class, Job, Material, Part, Polygon, Process, Surface};
+use crate::part::{Job, Part, Polygon, Surface};
 use crate::range;
+use crate::settings::Settings;
 use gablemadder::{Face, MOST_POLYGONS, MOST_VERTICES};
 
 /// The part that a text describes.
@@ -50,19 +51,6 @@ impl<'a> Lines<'a> {
     }
 }
 
-/// The settings as far as they are read.
-#[derive(Default)]
-struct Settings {
-    process: Option<Process>,
-    up: Option<[f64; 3]>,
-    layer: Option<f64>,
-    min_wall: Option<f64>,
-    min_hole: Option<f64>,
-    nozzle: Option<f64>,
-    overhang: Option<u32>,
-    material: Option<Material>,
-}
-
 /// The job, up to the first face or the end.
 fn job(lines: &mut Lines) -> Result<Job, Wrong> {
     let mut settings = Settings::default();
@@ -70,60 +58,6 @@ fn job(lines: &mut Lines) -> Result<Job, Wrong> {
         lines.line(|line| settings.read(line))?;
     }
     settings.job().map_err(|name| lines.here().wrong(format!("\"{name}\" of the job")))
-}
-
-impl Settings {
-    fn read(&mut self, line: &mut Line) -> Result<(), Wrong> {
-        const NAMES: [&str; 8] = ["process", "up", "layer", "min_wall", "min_hole", "nozzle", "overhang", "material"];
-        let Some(name) = NAMES.into_iter().find(|name| line.is(name)) else {
-            return Err(line.wrong("a setting of the job or \"face\""));
-        };
-        let again = line.wrong("each setting once");
-        line.keyword(name)?;
-        match name {
-            "process" => set(&mut self.process, line.one_of(&Process::ALL, Process::name)?),
-            "up" => set(&mut self.up, line.direction()?),
-            "layer" => set(&mut self.layer, line.real(range::LAYER)?),
-            "min_wall" => set(&mut self.min_wall, line.real(range::MIN_WALL)?),
-            "min_hole" => set(&mut self.min_hole, line.real(range::MIN_HOLE)?),
-            "nozzle" => set(&mut self.nozzle, line.real(range::NOZZLE)?),
-            "overhang" => set(&mut self.overhang, line.places(1, range::MOST_TENTHS)?),
-            _ => set(&mut self.material, material(line)?),
-        }
-        .ok_or(again)
-    }
-
-    /// The job, or the name of a setting that it needs.
-    fn job(self) -> Result<Job, &'static str> {
-        Ok(Job {
-            process: self.process.ok_or("process")?,
-            up: self.up.ok_or("up")?,
-            layer: self.layer.ok_or("layer")?,
-            min_wall: self.min_wall.ok_or("min_wall")?,
-            min_hole: self.min_hole.ok_or("min_hole")?,
-            nozzle: self.nozzle,
-            overhang: self.overhang,
-            material: self.material,
-        })
-    }
-}
-
-/// Sets what was not set before.
-fn set<T>(place: &mut Option<T>, value: T) -> Option<()> {
-    place.replace(value).is_none().then_some(())
-}
-
-fn material(line: &mut Line) -> Result<Material, Wrong> {
-    let name = line.name()?;
-    let class = line.one_of(&Class::ALL, Class::name)?;
-    line.keyword("min_wall")?;
-    let min_wall = line.real(range::MATERIAL_MIN_WALL)?;
-    let mut bend_ratio = None;
-    if line.is("bend_ratio") {
-        line.keyword("bend_ratio")?;
-        bend_ratio = Some(line.places(3, range::MOST_THOUSANDTHS)?);
-    }
-    Ok(Material { name, class, min_wall, bend_ratio })
 }
 
 /// A face's line and its polygons.

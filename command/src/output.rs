@@ -1,4 +1,6 @@
-//! Writing to standard output, all or nothing as far as the system lets it.
+//! Writing to standard output or to a file, all or nothing as far as the system lets it.
+use crate::input;
+use std::ffi::OsStr;
 use std::fs::File;
 use std::io::{self, ErrorKind, Write};
 use std::os::fd::AsFd;
@@ -16,12 +18,25 @@ pub fn put(bytes: &[u8]) -> Result<(), String> {
     })
 }
 
+/// The same to a file of this name, whose content from before is lost.
+pub fn put_file(path: &OsStr, bytes: &[u8]) -> Result<(), String> {
+    let written = File::create(path).and_then(|mut file| {
+        file.write_all(bytes).inspect_err(|_| {
+            let _ = file.set_len(0);
+        })
+    });
+    written.map_err(|error| format!("{}: it cannot be written: {}", input::name(path), why(error)))
+}
+
 fn words(error: io::Error) -> String {
-    let why = match error.kind() {
+    format!("gablemadder: standard output: {}", why(error))
+}
+
+fn why(error: io::Error) -> String {
+    match error.kind() {
         ErrorKind::BrokenPipe => "its reader has gone".to_string(),
         ErrorKind::StorageFull => "the disk is full".to_string(),
         ErrorKind::QuotaExceeded => "the disk's quota is used up".to_string(),
         _ => error.to_string(),
-    };
-    format!("gablemadder: standard output: {why}")
+    }
 }

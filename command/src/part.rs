@@ -436,6 +436,15 @@ fn put_polygon(out: &mut Vec<u8>, polygon: &Polygon) {
     put_reals(out, &[radius]);
 }
 
+impl Job {
+    /// Its 128 bytes.
+    pub fn bytes(&self) -> Vec<u8> {
+        let mut out = Vec::with_capacity(JOB);
+        put_job(&mut out, self);
+        out
+    }
+}
+
 fn put_job(out: &mut Vec<u8>, job: &Job) {
     let start = out.len();
     let material = job.material.as_ref();

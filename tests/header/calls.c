@@ -143,6 +143,34 @@ static void numbers(void) {
     expect("the root of 2 by its bits", gablemadder_sqrt_bits(0x4000000000000000u) == 0x3FF6A09E667F3BCDu);
 }
 
+/* A call whose answer is a refusal: nothing is changed. */
+static void obj_refused(const char *what, const char *text, size_t job_len, size_t out_len, uint32_t number) {
+    fill();
+    expect(what, gablemadder_obj((const uint8_t *)text, strlen(text), plate + PLATE - 144, job_len, report, out_len, &written) == number);
+    expect(what, same_bytes(report, 0x5a, sizeof report) && written == 77);
+}
+
+/* A triangle, its part file and each refusal. */
+static void obj(void) {
+    static const char text[] = "v 0 0 0\nv 20 0 0\nv 0 20 0\ng 7\nf 1 2 3";
+    const size_t length = GABLEMADDER_FILE_LENGTH(3, 1);
+    size_t v = 0, p = 0;
+    expect("enough room", gablemadder_obj_room(sizeof text - 1) >= length && gablemadder_obj_room(0) >= 144);
+    expect("room of the most", gablemadder_obj_room((size_t)-1) == GABLEMADDER_FILE_LENGTH(GABLEMADDER_MOST_VERTICES, GABLEMADDER_MOST_POLYGONS));
+    fill();
+    expect("a part file", gablemadder_obj((const uint8_t *)text, sizeof text - 1, plate + PLATE - 144, 128, report, sizeof report, &written) == 0);
+    expect("its length", written == length && same_bytes(report + length, 0x5a, sizeof report - length));
+    expect("its counts", gablemadder_counts(report, written, &v, &p) == 1 && v == 3 && p == 1);
+    expect("its job", memcmp(report + length - 144, plate + PLATE - 144, 128) == 0);
+    expect("no text", gablemadder_obj(NULL, 0, plate + PLATE - 144, 128, report, 144, &written) == 0 && written == 144);
+    expect("its check", gablemadder_check(report, 144, words, 1024, reals, 2048, NULL, 0, wanted, sizeof wanted, &written) == 0);
+    obj_refused("another line", "v 1 2\nf 1 2 3\n", 128, sizeof report, GABLEMADDER_BAD_LINE);
+    obj_refused("no such vertex", "v 1 2 3\nf 1 1 2\nx", 128, sizeof report, GABLEMADDER_UNDEFINED_VERTEX);
+    obj_refused("a short job", text, 127, sizeof report, GABLEMADDER_BAD_JOB);
+    obj_refused("a long job", text, 129, 0, GABLEMADDER_BAD_JOB);
+    obj_refused("a byte too few", text, 128, length - 1, GABLEMADDER_OUTPUT_TOO_SHORT);
+}
+
 static size_t read_file(const char *path, uint8_t *bytes, size_t most) {
     FILE *file = fopen(path, "rb");
     size_t length = file == NULL ? 0 : fread(bytes, 1, most, file);
@@ -158,6 +186,7 @@ int main(int argc, char **argv) {
     refusals();
     lent();
     numbers();
+    obj();
     printf("header: %d facts of calls, %d wrong\n", calls, wrong);
     return wrong != 0;
 }

@@ -21,6 +21,9 @@ OTHERS = {
     "TooManyFaults": ("crates/dfm*/specs/*.antt", r"\(Refused \d+\)\) \(Refused (\d+)\)\)"),
     "ReportTooLong": ("crates/dfm*/specs/*.antt", r"\(Refused (\d+)\)\) \(Refused \d+\)\)"),
     "NoDecimal": ("crates/exports/src/texts.rt", r"Answer::Refused => (\d+)"),
+    "BadLine": ("crates/obj_text/specs/Text.antt", r"refusalFrom n \(other ∷ fs\) = (\d+)"),
+    "UndefinedVertex": ("crates/obj_text/specs/Text.antt", r"\(leb \(largest ns\) n\) \(refusalFrom n fs\) (\d+)"),
+    "OutputTooShort": ("crates/obj_part/specs/File.antt", r"\(ltb room [^\n]*\) (\d+) 0\)\)\)"),
 }
 
 
@@ -211,6 +214,8 @@ CHANGES = [
     (HEADER, "const uint8_t *file, size_t file_len, uint32_t *words", "uint8_t *file, size_t file_len, uint32_t *words"),
     (HEADER, "double gablemadder_sqrt(double x);", "float gablemadder_sqrt(double x);"),
     (HEADER, "uint64_t gablemadder_sqrt_bits(uint64_t b);", ""),
+    (HEADER, "size_t text_len, const uint8_t *job, size_t job_len, uint8_t *out", "size_t text_len, uint8_t *out, size_t out_len, const uint8_t *job"),
+    (HEADER, "GABLEMADDER_UNDEFINED_VERTEX = 15", "GABLEMADDER_UNDEFINED_VERTEX = 14"),
     (HEADER, "uint32_t count;    /*", "uint64_t count;    /*"),
     (HEADER, "    double y;\n    double z;\n", "    double z;\n    double y;\n"),
     (HEADER, "GABLEMADDER_BAD_VERTEX = 6", "GABLEMADDER_BAD_VERTEX = 7"),
@@ -222,7 +227,9 @@ CHANGES = [
     ("crates/exports/src/texts.rt", "Answer::Refused => 13", "Answer::Refused => 14"),
     ("crates/file_ok/src/verdict.rt", "Verdict::BadJob => 5", "Verdict::BadJob => 6"),
     ("crates/scratch/specs/Regions.antt", "wordsNeeded p v = 12 * p", "wordsNeeded p v = 8 * p"),
+    ("crates/obj_part/specs/File.antt", "(length (facesOf text)))) 16 0)))", "(length (facesOf text)))) 17 0)))"),
     (RUST + "ffi.rs", "rows: *mut FaultRow,", "rows: *const FaultRow,"),
+    (RUST + "ffi.rs", "            job: *const u8,", "            job: *mut u8,"),
     (RUST + "ffi.rs", "    pub b: u32,\n", "    pub b: u64,\n"),
     (RUST + "refusal.rs", "    BadJob = 5,", "    BadJob = 15,"),
     (RUST + "report.rs", 'Rule::TightBend => "Tight bend"', 'Rule::TightBend => "Tight bends"'),

@@ -28,6 +28,15 @@ mod c {
             report_len: usize,
             written: *mut usize,
         ) -> u32;
+        pub fn gablemadder_obj(
+            text: *const u8,
+            text_len: usize,
+            job: *const u8,
+            job_len: usize,
+            out: *mut u8,
+            out_len: usize,
+            written: *mut usize,
+        ) -> u32;
         pub fn gablemadder_put_bytes(out: *mut u8, len: usize, at: usize, s: *const u8, n: usize) -> usize;
         pub fn gablemadder_put_number(out: *mut u8, len: usize, at: usize, n: u64) -> usize;
         pub fn gablemadder_put_hex(out: *mut u8, len: usize, at: usize, bits: u64) -> usize;
@@ -157,6 +166,11 @@ pub fn check(file: &[u8], words: &mut [u32], reals: &mut [f64], rows: &mut [Faul
 /// The refusal from 1 to 9 that turns a part file back, or 10: it is lent nothing.
 pub fn refusal(file: &[u8]) -> u32 {
     check(file, &mut [], &mut [], &mut [], &mut [], &mut 0)
+}
+
+/// 0, the part file of OBJ text in the first bytes of `out` and their number in `written`; or the refusal: 14, 15, 3, 5 or 16.
+pub fn obj(text: &[u8], job: &[u8], out: &mut [u8], written: &mut usize) -> u32 {
+    unsafe { c::gablemadder_obj(text.as_ptr(), text.len(), job.as_ptr(), job.len(), out.as_mut_ptr(), out.len(), written) }
 }
 
 pub fn put_bytes(out: &mut [u8], at: usize, s: &[u8]) -> usize {

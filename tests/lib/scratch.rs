@@ -82,6 +82,14 @@ impl<T: Cell> Scratch<T> {
         self.cells.copy_from_slice(&self.before);
     }
 
+    /// Cells that hold this, for a call that only reads them.
+    pub fn hold(&mut self, these: &[T], random: &mut Random) {
+        self.lend(these.len(), 0, 0, random);
+        let at = self.lead..self.lead + self.lent;
+        self.before[at.clone()].copy_from_slice(these);
+        self.cells[at].copy_from_slice(these);
+    }
+
     pub fn cells(&mut self) -> &mut [T] {
         &mut self.cells[self.lead..][..self.lent]
     }

@@ -47,6 +47,15 @@ mod c {
             written: *mut usize,
         ) -> u32;
         pub fn gablemadder_decimal(x: f64, places: u32, out: *mut u8, out_len: usize, written: *mut usize) -> u32;
+        pub fn gablemadder_obj(
+            text: *const u8,
+            text_len: usize,
+            job: *const u8,
+            job_len: usize,
+            out: *mut u8,
+            out_len: usize,
+            written: *mut usize,
+        ) -> u32;
         pub fn gablemadder_sqrt(x: f64) -> f64;
         pub fn gablemadder_sqrt_bits(b: u64) -> u64;
     }
@@ -76,6 +85,17 @@ pub fn check_with(file: &[u8], words: &mut [u32], reals: &mut [f64], rows: &mut 
             &mut written,
         )
     };
+    Refusal::or(answer, written)
+}
+
+/// Makes a part file of OBJ text with nothing but what is lent: it stands in the first bytes of `out`, and their number is the answer.
+///
+/// As many bytes as [`obj_room`](crate::obj_room) says are always enough. What [`obj_to_part`](crate::obj_to_part) says of texts and refusals holds here;
+/// beside these, [`OutputTooShort`](Refusal::OutputTooShort) comes last. `out` is changed only by a part file, and only where that stands.
+pub fn obj_to_part_with(text: &[u8], job: &[u8], out: &mut [u8]) -> Result<usize, Refusal> {
+    let mut written = 0;
+    // SAFETY: each pointer goes with the length of its slice, no two slices overlap, and the library touches nothing else.
+    let answer = unsafe { c::gablemadder_obj(text.as_ptr(), text.len(), job.as_ptr(), job.len(), out.as_mut_ptr(), out.len(), &mut written) };
     Refusal::or(answer, written)
 }
 

@@ -22,6 +22,8 @@
 //! - a [`Checker`] keeps its buffers from part to part, and allocates nothing after its first;
 //! - [`check_with`] is the library's own call: all is lent by the caller, in the sizes that [`Scratch::of`] says, and nothing is allocated.
 //!
+//! [`obj_to_part`] makes a part file of Wavefront OBJ text, and [`obj_to_part_with`] the same in a lent buffer.
+//!
 //! The library keeps nothing between calls: threads may check at once, each with buffers of its own.
 #![deny(missing_docs)]
 #![deny(unsafe_code)]
@@ -29,12 +31,14 @@
 mod checker;
 #[allow(unsafe_code)]
 mod ffi;
+mod obj;
 mod refusal;
 mod report;
 mod scratch;
 
 pub use checker::{check, Checker};
-pub use ffi::{check_with, decimal, sqrt, sqrt_bits, FaultRow};
+pub use ffi::{check_with, decimal, obj_to_part_with, sqrt, sqrt_bits, FaultRow};
+pub use obj::{obj_room, obj_to_part, JOB};
 pub use refusal::Refusal;
 pub use report::{Face, Finding, Malformed, Report, Rule, Severity};
 pub use scratch::{Scratch, MOST_POLYGONS, MOST_REPORT, MOST_ROWS, MOST_VERTICES};

@@ -2,7 +2,8 @@
 use std::error::Error;
 use std::fmt::{self, Display, Formatter};
 
-/// Why a call is refused. Tested by rising number: the first that applies is the answer.
+/// Why a call is refused. Tested by rising number, of OBJ text in the order that [`obj_to_part`](crate::obj_to_part) says: the first that applies is the
+/// answer.
 #[derive(Clone, Copy, Debug, PartialEq, Eq, Hash)]
 #[repr(u32)]
 pub enum Refusal {
@@ -32,13 +33,19 @@ pub enum Refusal {
     ReportTooLong = 12,
     /// The decimal writer's alone: a number or places that it does not write, or a buffer under 24 bytes.
     NoDecimal = 13,
+    /// OBJ text: a line is of no form that is read.
+    BadLine = 14,
+    /// OBJ text: a face names a vertex that no line above it defines.
+    UndefinedVertex = 15,
+    /// OBJ text: the buffer is shorter than the part file.
+    OutputTooShort = 16,
 }
 
 use Refusal::*;
 
 impl Refusal {
     /// All of them, by rising number.
-    pub const ALL: [Refusal; 13] = [
+    pub const ALL: [Refusal; 16] = [
         TooShort,
         WrongEdition,
         TooLarge,
@@ -52,6 +59,9 @@ impl Refusal {
         TooManyFaults,
         ReportTooLong,
         NoDecimal,
+        BadLine,
+        UndefinedVertex,
+        OutputTooShort,
     ];
 
     /// The number by which the library, the program and the documents call it.
@@ -80,6 +90,9 @@ impl Refusal {
             TooManyFaults => "more faults than fault rows lent, or over 2,048",
             ReportTooLong => "report longer than its buffer",
             NoDecimal => "decimal text: number not finite, below 0, or 2^60 and more; places over 3; buffer under 24 bytes",
+            BadLine => "OBJ text: a line of any other form",
+            UndefinedVertex => "OBJ text: a vertex number not yet defined",
+            OutputTooShort => "OBJ text: output buffer shorter than the part file",
         }
     }
 
@@ -90,7 +103,7 @@ impl Refusal {
             WrongEdition => "Write the file by the layout of edition 1; the edition is the first of the trailer's four numbers.",
             TooLarge => "Mesh the part more coarsely, or check it in pieces.",
             WrongLength => "Let the trailer's counts be those of the vertices and polygons in the file, and `back` 80P + 144.",
-            BadJob => "Look at the job: process, flags, ranges, and zeros in each field whose flag is not set.",
+            BadJob => "Look at the job, 128 bytes: process, flags, ranges, and zeros in each field whose flag is not set.",
             BadVertex => "Keep coordinates finite and within 10,000 mm of zero on each axis.",
             BadPolygon => "Give each polygon 3 to 64 vertices in runs that follow on, and a surface whose numbers are in range.",
             FlatPolygon => "Leave out polygons without an area, such as those whose vertices lie on one line.",
@@ -99,6 +112,9 @@ impl Refusal {
             TooManyFaults => "Lend 2,048 rows; if that many were lent, correct what the part repeats, or check it in pieces.",
             ReportTooLong => "Lend a longer buffer; `MOST_REPORT` bytes hold every report.",
             NoDecimal => "Pass a finite number from 0 to below 2^60, at most 3 places, and a buffer of 24 bytes.",
+            BadLine => "Keep to lines `v x y z`, `f a b c ..` and `g n`, one or more spaces between fields and none elsewhere, and comments that start with #.",
+            UndefinedVertex => "Define each vertex above the faces that use it; vertices are numbered from 1 in their order.",
+            OutputTooShort => "Lend as many bytes as `obj_room` says.",
         }
     }
 
@@ -106,7 +122,7 @@ impl Refusal {
     pub(crate) fn or<T>(answer: u32, value: T) -> Result<T, Refusal> {
         match answer {
             0 => Ok(value),
-            number => Err(Refusal::from_number(number).expect("the library answers 0 to 13")),
+            number => Err(Refusal::from_number(number).expect("the library answers 0 to 16")),
         }
     }
 }
@@ -124,14 +140,14 @@ mod tests {
     use super::*;
 
     #[test]
-    fn numbers_are_1_to_13() {
+    fn numbers_are_1_to_16() {
         let numbers: Vec<u32> = Refusal::ALL.iter().map(|r| r.number()).collect();
-        assert_eq!(numbers, (1..=13).collect::<Vec<u32>>());
+        assert_eq!(numbers, (1..=16).collect::<Vec<u32>>());
         for refusal in Refusal::ALL {
             assert_eq!(Refusal::from_number(refusal.number()), Some(refusal));
         }
         assert_eq!(Refusal::from_number(0), None);
-        assert_eq!(Refusal::from_number(14), None);
+        assert_eq!(Refusal::from_number(17), None);
     }
 
     #[test]
