@@ -120,6 +120,119 @@ fn a_wrong_text_is_answered_with_its_place() {
     refused(&output, &format!("{wrong}:13:5: expected a number, found \"abc\"\n"));
 }
 
+/// The plate in OBJ text, with another thickness.
+fn plate_obj(thickness: &str) -> String {
+    let corners: Vec<String> = ["0 0", "20 0", "20 20", "0 20"].map(str::to_string).to_vec();
+    let level = |z: &str| corners.iter().map(|corner| format!("v {corner} {z}\n")).collect::<String>();
+    let faces = ["1 4 3 2", "5 6 7 8", "1 2 6 5", "2 3 7 6", "3 4 8 7", "4 1 5 8"];
+    let faces: String = (0..).zip(faces).map(|(index, face)| format!("g {index}\nf {face}\n")).collect();
+    format!("# the plate\n{}{}{faces}", level("0"), level(thickness))
+}
+
+#[test]
+fn obj_text_is_made_a_part_file() {
+    let made = run_on(&["obj", "--process", "CNC", "-"], plate_obj("0.5").as_bytes());
+    assert_eq!(made.stdout, fs::read(PLATE).unwrap());
+    assert_eq!((text(&made.stderr), made.status.code()), ("", Some(0)));
+    let (from, to) = (file("plate.obj", plate_obj(".5").as_bytes()), file("plate_of_obj.part", b"before"));
+    let made = run(&["obj", &from, "-o", &to, "--process=CNC"]);
+    assert_eq!((text(&made.stdout), text(&made.stderr), made.status.code()), ("", "", Some(0)));
+    assert_eq!(fs::read(&to).unwrap(), fs::read(PLATE).unwrap());
+}
+
+#[test]
+fn the_job_of_obj_text_is_said_by_options() {
+    let words = ["obj", "-", "--process", "sheet", "--up", "0,0,-1", "--layer", "0.3", "--min_wall", "1", "--min_hole", "3", "--nozzle", "0.6"];
+    let more = ["--overhang", "50.5", "--material", "\"Steel DC01\" metal min_wall 0.5 bend_ratio 1.25"];
+    let made = run_on(&[&words[..], &more].concat(), plate_obj("1").as_bytes());
+    assert_eq!(text(&made.stderr), "");
+    let shown = run_on(&["show", "-"], &made.stdout);
+    let job = "job\n  process sheet\n  up 0 0 -1\n  layer 0.3\n  min_wall 1\n  min_hole 3\n  nozzle 0.6\n  overhang 50.5\n  \
+               material \"Steel DC01\" metal min_wall 0.5 bend_ratio 1.25\n\nface 1:0 plane\n";
+    assert!(text(&shown.stdout).contains(job), "{}", text(&shown.stdout));
+    let made = run_on(&["obj", "-", "--process", "FDM", "--overhang", "none"], plate_obj("1").as_bytes());
+    let shown = run_on(&["show", "-"], &made.stdout);
+    let job = "job\n  process FDM\n  up 0 1 0\n  layer 0.2\n  min_wall 0.8\n  min_hole 2\n  nozzle 0.4\n\nface ";
+    assert!(text(&shown.stdout).contains(job), "{}", text(&shown.stdout));
+    let said = |words: &[&str], want: &str| refused(&run(words), &format!("gablemadder: {want}; `gablemadder --help` says how it is called\n"));
+    said(&["obj", "part.obj"], "--process is needed");
+    said(&["obj", "part.obj", "--process"], "--process: expected \"CNC\", \"sheet\", \"FDM\", \"SLA\" or \"SLS\", found the end of the line");
+    said(&["obj", "part.obj", "--process", "CNC", "--layer", "0"], "--layer: expected a number from 0.001 to 1000, found \"0\"");
+    said(&["obj", "part.obj", "--process", "CNC", "--layers", "1"], "there is no option \"--layers\" here");
+    said(&["obj", "--process", "CNC"], "no file is named");
+    said(&["obj", "part.obj", "--process", "CNC", "--json"], "--json is for reports, and --check is not there");
+    said(&["check", "part.obj", "--process", "CNC"], "there is no option \"--process\" here");
+}
+
+#[test]
+fn obj_text_is_checked() {
+    let words = ["obj", "--check", "--process", "CNC", "-"];
+    let checked = run_on(&words, plate_obj("0.5").as_bytes());
+    assert_eq!((checked.stdout, checked.status.code()), (fs::read(REPORT).unwrap(), Some(0)));
+    let checked = run_on(&words, plate_obj("0.3").as_bytes());
+    assert!(text(&checked.stdout).starts_with("1 - 0 -\nError|Thin wall|1|1:0,1:1|"));
+    assert_eq!((text(&checked.stderr), checked.status.code()), ("", Some(1)));
+    let to = file("checked.part", b"");
+    let checked = run_on(&[&words[..], &["-o", &to, "--json"]].concat(), plate_obj("2").as_bytes());
+    assert_eq!(text(&checked.stdout), "{\"file\":\"-\",\"findings\":[],\"thickness\":null,\"bends\":0,\"height\":null}\n");
+    assert_eq!((fs::metadata(&to).unwrap().len(), checked.status.code()), (1200, Some(0)));
+    let checked = run_on(&[&words[..], &["--json"]].concat(), b"v 0 0 0\nvn 0 0 1\n");
+    let place = "line 2, column 1: expected \\\"v\\\", \\\"f\\\", \\\"g\\\" or \\\"#\\\" at the line's start, found \\\"vn\\\"";
+    let refusal = format!("{{\"number\":14,\"condition\":\"OBJ text: a line of any other form\",\"place\":\"{place}\",\"advice\":\"");
+    assert!(text(&checked.stdout).starts_with(&format!("{{\"file\":\"-\",\"refusal\":{refusal}")), "{}", text(&checked.stdout));
+    assert_eq!((text(&checked.stderr).lines().count(), checked.status.code()), (1, Some(2)));
+}
+
+#[test]
+fn refused_obj_text_is_told_with_its_line() {
+    let said = |obj: &str, words: &str| {
+        let want = format!("standard input: refused {words}");
+        refused(&run_on(&["obj", "--process", "CNC", "-"], obj.as_bytes()), &want);
+        refused(&run_on(&["obj", "--process", "CNC", "--check", "-"], obj.as_bytes()), &want);
+    };
+    let plate = plate_obj("0.5");
+    let form = "14 (OBJ text: a line of any other form): ";
+    said(
+        &plate.replace("v 0 20 0.5", "v 0 2e1 0.5"),
+        &format!("{form}line 9, column 5: expected a decimal of 1 to 15 digits without an exponent, found"),
+    );
+    said(&plate.replace('\n', "\r\n"), &format!("{form}line 2, column 8: expected a line feed alone, found a carriage return before it. Keep to"));
+    said(&plate.replace("f 1 4 3 2", "f 1//1 4//1 3//1"), &format!("{form}line 11, column 3: expected a vertex number from 1, digits alone, found "));
+    let vertex = "15 (OBJ text: a vertex number not yet defined): ";
+    said(
+        &plate.replace("f 4 1 5 8", "f 4 1 5 9"),
+        &format!("{vertex}line 21, column 9: expected the number of a vertex defined above, from 1 to 8, found \"9\". "),
+    );
+    let many = format!("{plate}{}", "f 1 2 3\n".repeat(4091));
+    said(&many, "3 (over 16,384 vertices or over 4,096 polygons): 4097 faces with 12297 corners, where 4096 and 16384 are the most. ");
+    // what only the check refuses
+    let checked = |obj: &str, words: &str| {
+        assert_eq!(run_on(&["obj", "--process", "CNC", "-"], obj.as_bytes()).status.code(), Some(0));
+        refused(&run_on(&["obj", "--process", "CNC", "--check", "-"], obj.as_bytes()), &format!("standard input: refused {words}"));
+    };
+    checked(&plate_obj("20000"), "6 (coordinate not finite or out of range): line 13, polygon 1 (face 1:1), vertex 0: z is 20000.0; ");
+    checked(
+        &plate.replace("f 1 2 6 5", "f 1 1 6 6"),
+        "8 (a polygon without a plane: its normal sum is shorter than 1e-14): line 15, polygon 2 (face 1:2): ",
+    );
+}
+
+#[test]
+fn what_obj_cannot_read_or_write_is_told() {
+    let obj = |words: &[&str]| run(&[&["obj", "--process", "CNC"], words].concat());
+    refused(&obj(&["no/such.obj"]), "no/such.obj: there is no such file\n");
+    refused(&obj(&[env!("CARGO_MANIFEST_DIR")]), ": it is a folder, not a file\n");
+    let (plate, huge) = (file("written.obj", plate_obj("1").as_bytes()), file("huge.obj", b""));
+    File::options().write(true).open(&huge).unwrap().set_len(1 << 30).unwrap();
+    refused(&obj(&[&huge]), ": too long: 1073741824 bytes, and ");
+    fs::remove_file(huge).unwrap();
+    refused(&obj(&[&plate, "-o", "no/such/folder.part"]), "no/such/folder.part: it cannot be written: ");
+    refused(&obj(&[&plate, "-o", "/dev/full"]), "/dev/full: it cannot be written: the disk is full\n");
+    let full = File::options().write(true).open("/dev/full").unwrap();
+    let output = gablemadder(&["obj", "--process", "CNC", &plate]).stdout(full).output().unwrap();
+    refused(&output, "gablemadder: standard output: the disk is full\n");
+}
+
 #[test]
 fn a_refusal_says_where_and_what_to_do() {
     let plate = fs::read(PLATE).unwrap();

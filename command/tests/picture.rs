@@ -76,6 +76,17 @@ fn examples_have_their_reports_and_pictures() {
 }
 
 #[test]
+fn the_example_in_obj_text_has_its_report_and_picture() {
+    let text = example("angle", "obj");
+    let words = ["obj", "--process", "CNC", "--up", "0,0,1", "-"];
+    let file = printed(&words, text.as_bytes());
+    let report = example("angle", "report");
+    assert_eq!(printed(&["check", "-"], &file), report.as_bytes());
+    assert_eq!(printed(&[&words[..], &["--check"]].concat(), text.as_bytes()), report.as_bytes());
+    assert_eq!(picture(&file, None), example("angle", "svg"));
+}
+
+#[test]
 fn examples_find_what_they_are_there_for() {
     let rules = [
         ("plate", &["Warning|Thin wall|"][..]),
@@ -83,6 +94,7 @@ fn examples_find_what_they_are_there_for() {
         ("bracket", &["Error|Tight bend|", "Warning|Short flange|"]),
         ("cover", &["Warning|Overhang|"]),
         ("hollow-block", &["Error|Enclosed hollow|"]),
+        ("angle", &["Warning|Sharp inside corner|1|1:2,1:3|", "Warning|Thin wall|1|1:3,1:5|"]),
     ];
     for (name, wanted) in rules {
         let report = example(name, "report");

@@ -4,16 +4,16 @@ use crate::draw::{decimal, pick};
 use crate::random::Random;
 use std::fmt::Write;
 
-/// Faces of these many corners over so many vertices, by their numbers in turn.
-fn grid(vertices: usize, counts: &[usize]) -> Vec<u8> {
+/// Faces of these many corners over so many vertices, by their numbers in turn, with an index for each so many.
+fn grid(vertices: usize, counts: &[usize], every: usize) -> Vec<u8> {
     let mut text = String::new();
     for k in 0..vertices {
         let _ = writeln!(text, "v {} {}.{} {}", k % 100, k / 100, k % 7, (k * k) % 89);
     }
     let mut next = 0;
     for (number, count) in counts.iter().enumerate() {
-        if number % 5 == 0 {
-            let _ = writeln!(text, "g {}", number / 5);
+        if number % every == 0 {
+            let _ = writeln!(text, "g {}", number / every);
         }
         text.push('f');
         for _ in 0..*count {
@@ -42,16 +42,23 @@ pub fn sizes(c: &mut Compare) {
     counts.push(("16,384", [vec![64; 255], vec![61, 3]].concat()));
     counts.push(("16,383", [vec![64; 255], vec![60, 3]].concat()));
     counts.push(("16,385 in 4,096", [vec![4; 4095], vec![5]].concat()));
-    counts.push(("1,025 faces", vec![3; 1025 * 5 - 2000]));
     for (name, counts) in counts {
         for vertices in [3, 64, 5_000] {
-            let text = grid(vertices, &counts);
+            let text = grid(vertices, &counts, 5);
             c.check(&text, || format!("faces {name}, {vertices} vertices"));
             for (line, number) in [(&b"f 1 2\n"[..], 14), (b"f 1 2 9999999\n", 15)] {
                 let answer = c.check(&[&text[..], line].concat(), || format!("faces {name}, {vertices} vertices, a line refused"));
                 assert_eq!(answer, number);
             }
         }
+    }
+}
+
+/// About as many faces as the check takes.
+pub fn faces(c: &mut Compare, random: &mut Random, times: u64) {
+    for _ in 0..times {
+        let (faces, vertices) = (1_015 + random.below(20) as usize, 3 + random.below(60) as usize);
+        c.check(&grid(vertices, &vec![3; faces], 1), || format!("{faces} faces, {vertices} vertices"));
     }
 }
 

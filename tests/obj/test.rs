@@ -57,7 +57,8 @@ fn share(k: u64, threads: u64, part: u64) -> (Compare, u64) {
         limits::run(&mut c);
     }
     if k + 1 == threads {
-        long::sizes(&mut c);
+        (0..5u64.div_ceil(part)).for_each(|_| long::sizes(&mut c));
+        long::faces(&mut c, &mut Random(64), 400 / part);
         long::windows(&mut c, &mut Random(61), 40 / part);
     }
     for number in (k..DRAWN / part).step_by(threads as usize) {
