@@ -94,7 +94,7 @@ fn examples_find_what_they_are_there_for() {
         ("bracket", &["Error|Tight bend|", "Warning|Short flange|"]),
         ("cover", &["Warning|Overhang|"]),
         ("hollow-block", &["Error|Enclosed hollow|"]),
-        ("angle", &["Warning|Sharp inside corner|1|1:2,1:3|", "Warning|Thin wall|1|1:3,1:5|"]),
+        ("angle", &["Warning|Thin wall|1|1:3,1:5|"]),
     ];
     for (name, wanted) in rules {
         let report = example(name, "report");
