@@ -7,7 +7,8 @@
  * What the caller owes: a pointer leads to as many elements as the length after it says (with a length of 0 it may be anything, NULL too);
  * no two buffers of a call overlap; `written` leads to a size_t. What a lent buffer holds before the call does not matter.
  * The library keeps nothing between calls and allocates nothing: threads may call it at once, each with buffers of its own; the part file, which is
- * only read, they may share. A check needs less than 256 KiB of stack.
+ * only read, they may share. A check needs less than 256 KiB of stack, the part file of OBJ
+ * text less than 1 MiB.
  *
  * For x86-64. Usable from C99 and from C++11.
  */

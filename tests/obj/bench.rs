@@ -71,6 +71,7 @@ fn time(what: &str, rounds: usize, text: &str) {
 }
 
 fn main() {
+    time("8 faces, 12 vertices", 5000, include_str!("../../examples/parts/angle.obj"));
     time("4,096 triangles, 2,178 vertices", 500, &sheets());
     time("a million vertices, 3 of them used", 10, &unused());
 }

@@ -22,7 +22,7 @@
 //! - a [`Checker`] keeps its buffers from part to part, and allocates nothing after its first;
 //! - [`check_with`] is the library's own call: all is lent by the caller, in the sizes that [`Scratch::of`] says, and nothing is allocated.
 //!
-//! [`obj_to_part`] makes a part file of Wavefront OBJ text, and [`obj_to_part_with`] the same in a lent buffer.
+//! [`obj_to_part`] makes a part file of Wavefront OBJ text, and [`obj_to_part_with`] the same in a lent buffer, each on 1 MiB of stack.
 //!
 //! The library keeps nothing between calls: threads may check at once, each with buffers of its own.
 #![deny(missing_docs)]

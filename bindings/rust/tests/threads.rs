@@ -2,7 +2,7 @@
 mod common;
 
 use common::{cuboid, hollows, largest, part, plate, CNC, FDM, SHEET, SLS};
-use gablemadder::{check, Checker, Refusal, MOST_ROWS};
+use gablemadder::{check, obj_to_part, Checker, Refusal, JOB, MOST_POLYGONS, MOST_ROWS};
 use std::thread;
 
 /// The answer's text, or its refusal.
@@ -47,4 +47,11 @@ fn little_stack_is_needed() {
         }
     };
     thread::Builder::new().stack_size(256 * 1024).spawn(check_all).unwrap().join().unwrap();
+}
+
+#[test]
+fn obj_text_needs_a_mebibyte_of_stack() {
+    let text = ["v 1 2 3\n".repeat(40_000), "f 1 20000 39999 40000\n".repeat(MOST_POLYGONS)].concat();
+    let make = move || assert!(obj_to_part(text.as_bytes(), &[0; JOB]).is_ok());
+    thread::Builder::new().stack_size(1024 * 1024).spawn(make).unwrap().join().unwrap();
 }
