@@ -26,9 +26,14 @@ use Rattle.dfm.specs.Check.{Outcome}
 
 -- ---- the rows that the cells and numbers hold
 -- 12,288 cells and 6,144 numbers hold every row that counts
-pub rows-room : (cells numbers : ℕ) → cells ≡ 12288 → numbers ≡ 6144 → rowRoom cells numbers ≡ 2048
+pub rows-many : (cells numbers lent : ℕ) → cells ≡ 12288 → numbers ≡ 6144 → min (rowRoom cells numbers) lent ≡ min 2048 lent
 unfolding rowRoom
-rows-room cells numbers ec en = rw (ec, en) refl
+rows-many cells numbers lent ec en = rw (ec, en) refl
+
+-- 384 cells and 192 numbers do so where at most 64 are lent
+pub rows-few : (cells numbers lent : ℕ) → cells ≡ 384 → numbers ≡ 192 → lent ≤ 64 → min (rowRoom cells numbers) lent ≡ min 2048 lent
+unfolding rowRoom
+rows-few cells numbers lent ec en few = rw (ec, en) (omega (arith, few))
 
 -- the faults that were found fit into the rows lent, and into the cells and numbers as they are now
 pub faults-fit : (n m lent lent′ cells cells′ numbers numbers′ : ℕ) → n ≡ m → m ≤ min (rowRoom cells numbers) lent → lent′ ≡ lent → cells′ ≡ cells → numbers′ ≡ numbers →
@@ -49,7 +54,7 @@ ready-taken s words cells cells′ numbers numbers′ rows rows1 f n e fits put 
 pub record Steps (s words words1 words′ : List ℕ) (reals reals1 reals′ : List Float) (cells cells1 : List ℕ) (numbers numbers1 : List Float)
     (rows rows1 rows′ : List FaultRow) (report report′ : List ℕ) (f : Findings) (r : Answer) : Type 0 where
   pub finding : Finding s words words1 reals reals1 cells cells1 numbers numbers1 (length rows) f
-  pub room : rowRoom (length cells) (length numbers) ≡ 2048
+  pub room : min (rowRoom (length cells) (length numbers)) (length rows) ≡ min 2048 (length rows)
   pub words-long : length words1 ≡ length words
   pub reals-long : length reals1 ≡ length reals
   pub put : rows1 ≡ painted (rowAt cells1 numbers1) (f .faults) rows
@@ -66,7 +71,7 @@ module _ (s words words1 words′ : List ℕ) (reals reals1 reals′ : List Floa
   lent = min 2048 (length rows)
 
   refusal-is : f .refusal ≡ refusalOf s (length words) (length reals) lent
-  refusal-is = h .finding .refusal ∙ ap (λ (k : ℕ). refusalOf s (length words) (length reals) (min k (length rows))) (h .room)
+  refusal-is = h .finding .refusal ∙ ap (refusalOf s (length words) (length reals)) (h .room)
 
   answer-is : r ≡ answerOf s (length words) (length reals) lent (length report)
   answer-is =
