@@ -17,8 +17,8 @@ use Rattle.obj_text.specs.Text.{origin, formsOf, verticesFrom, verticesOf, vert
 use Rattle.obj_tables.specs.declared.window.Window.{Window}
 use Rattle.obj_tables.specs.Tables.{Flushed, Axis, advanced, Kept}
 use Rattle.obj_tables.proofs.WindowLaws.{advance-full, advance-more, axis-flush}
-use Rattle.obj_passes.specs.Work.{Tables, Axes, windowAfter, IsNext, FilledLine, FilledLines}
-use Rattle.obj_passes.specs.Passes.{rowAt, Filled}
+use Rattle.obj_passes.specs.Work.{Axes, windowAfter, IsNext, FilledLine, FilledLines}
+use Rattle.obj_passes.specs.Passes.{Tables, rowAt, Filled}
 
 -- ---- one line
 module _ (line : Line) (numbers : List ℕ) (used : ℕ) (w : Window) (xs ys zs cx cy cz : List Float) (t : Tables xs ys zs cx cy cz) where

@@ -1,3 +1,3 @@
 -- What the passes over OBJ text leave that is not refused.
-pub mod Work
 pub mod Passes
+pub mod Work

@@ -16,6 +16,15 @@ pub record Collected (text : List ℕ) (from : ℕ) (numbers out numbers' out' :
   pub numbers-all : numbers' ≡ sets numbers 0 (map capped (cornersOf text))
   pub polygons-all : out' ≡ over out from (entriesFrom 0 (facesOf text))
 
+-- the six tables of coordinates: of the vertices of a window, and of the corners
+pub record Tables (xs ys zs cx cy cz : List Float) : Type 0 where
+  pub xs-long : length xs ≡ 16384
+  pub ys-long : length ys ≡ 16384
+  pub zs-long : length zs ≡ 16384
+  pub cx-long : length cx ≡ 16384
+  pub cy-long : length cy ≡ 16384
+  pub cz-long : length cz ≡ 16384
+
 -- the coordinates of a corner from the three tables
 unfoldable pub rowAt : List Float → List Float → List Float → ℕ → Vec3
 rowAt xs ys zs c = record { x = getD xs c nan; y = getD ys c nan; z = getD zs c nan }

@@ -16,6 +16,7 @@ use Rattle.obj_tables.specs.declared.window.Window.{Window}
 use Rattle.obj_tables.specs.Tables.{Axis, advanced}
 use Rattle.obj_part.specs.Bytes.{entryBytes}
 use Rattle.obj_passes.specs.declared.collect.Run.{Run}
+use Rattle.obj_passes.specs.Passes.{Tables}
 
 -- ---- what one line adds: vertex numbers, the index in use, a polygon
 unfoldable pub numbersOf : Form → List ℕ
@@ -45,16 +46,7 @@ pub record CollectedLine (f : Form) (s : Run) (numbers out numbers' out' : List 
   pub index-then : r .index ≡ indexAfter (s .index) f
   pub polygon : Put out (s .at) (entryOf (s .index) (s .used) f) out' (r .at)
 
--- ---- the six tables of coordinates: of the window's vertices, and of the corners
-pub record Tables (xs ys zs cx cy cz : List Float) : Type 0 where
-  pub xs-long : length xs ≡ 16384
-  pub ys-long : length ys ≡ 16384
-  pub zs-long : length zs ≡ 16384
-  pub cx-long : length cx ≡ 16384
-  pub cy-long : length cy ≡ 16384
-  pub cz-long : length cz ≡ 16384
-
--- what they hold of the vertices vs
+-- ---- what the six tables of coordinates hold of the vertices vs
 pub record Axes (vs : List Vec3) (numbers : List ℕ) (used : ℕ) (w : Window) (xs ys zs cx cy cz : List Float) : Type 0 where
   pub along-x : Axis (λ (v : Vec3). v .x) vs numbers used (w .base) (w .count) xs cx
   pub along-y : Axis (λ (v : Vec3). v .y) vs numbers used (w .base) (w .count) ys cy

@@ -17,31 +17,31 @@ slice-aggregate-collect : tie.Need-slice-aggregate-collect
 slice-aggregate-collect c = search needs
 
 mul-collect : tie.Need-mul-collect
-mul-collect c = omega (arith, accepted (c .before .before .before .before .before .args .text .now) (length (c .before .before .before .before .before .args .job .now)) (length (now (c .before .before .before .before .before .args .out))) (c .before .before .before .before .before .pre .0) .corners-most, c .before .before .before .before .before .pre .1 .0)
+mul-collect c = let a = accepted (c .before .before .before .before .before .args .text .now) (length (c .before .before .before .before .before .args .job .now)) (length (now (c .before .before .before .before .before .args .out))) (c .before .before .before .before .before .pre .0) in omega (arith, a .corners-most, c .before .before .before .before .before .pre .1 .0)
 
 collect-requires : tie.Need-collect-requires
-collect-requires c κs = (accepted (c .before .before .before .before .before .args .text .now) (length (c .before .before .before .before .before .args .job .now)) (length (now (c .before .before .before .before .before .args .out))) (c .before .before .before .before .before .pre .0) .corners-most, (length-replicate {A = ℕ} 16384 0, omega (arith, accepted (c .before .before .before .before .before .args .text .now) (length (c .before .before .before .before .before .args .job .now)) (length (now (c .before .before .before .before .before .args .out))) (c .before .before .before .before .before .pre .0) .corners-most, accepted (c .before .before .before .before .before .args .text .now) (length (c .before .before .before .before .before .args .job .now)) (length (now (c .before .before .before .before .before .args .out))) (c .before .before .before .before .before .pre .0) .faces-most, c .before .before .before .before .before .pre .1 .0)))
+collect-requires c κs = let a = accepted (c .before .before .before .before .before .args .text .now) (length (c .before .before .before .before .before .args .job .now)) (length (now (c .before .before .before .before .before .args .out))) (c .before .before .before .before .before .pre .0) in (a .corners-most, (length-replicate {A = ℕ} 16384 0, omega (arith, a .corners-most, a .faces-most, c .before .before .before .before .before .pre .1 .0)))
 
 slice-aggregate-put-corners : tie.Need-slice-aggregate-put-corners
 slice-aggregate-put-corners c = search needs
 
 put-corners-requires : tie.Need-put-corners-requires
-put-corners-requires c κs = (omega (arith, table (c .before .before .before .before .before .before .before .before .before .before .before .args .text .now) (replicate {A = ℕ} 16384 0) _ (omega arith) (accepted (c .before .before .before .before .before .before .before .before .before .before .before .args .text .now) (length (c .before .before .before .before .before .before .before .before .before .before .before .args .job .now)) (length (now (c .before .before .before .before .before .before .before .before .before .before .before .args .out))) (c .before .before .before .before .before .before .before .before .before .before .before .pre .0) .lines) (accepted (c .before .before .before .before .before .before .before .before .before .before .before .args .text .now) (length (c .before .before .before .before .before .before .before .before .before .before .before .args .job .now)) (length (now (c .before .before .before .before .before .before .before .before .before .before .before .args .out))) (c .before .before .before .before .before .before .before .before .before .before .before .pre .0) .corners-most) (length-replicate {A = ℕ} 16384 0) (c .before .before .before .before .before .collect .ensures .numbers-all) .long, accepted (c .before .before .before .before .before .before .before .before .before .before .before .args .text .now) (length (c .before .before .before .before .before .before .before .before .before .before .before .args .job .now)) (length (now (c .before .before .before .before .before .before .before .before .before .before .before .args .out))) (c .before .before .before .before .before .before .before .before .before .before .before .pre .0) .corners-most, c .before .before .before .before .before .before .before .before .before .before .before .pre .1 .0), (omega (arith, accepted (c .before .before .before .before .before .before .before .before .before .before .before .args .text .now) (length (c .before .before .before .before .before .before .before .before .before .before .before .args .job .now)) (length (now (c .before .before .before .before .before .before .before .before .before .before .before .args .out))) (c .before .before .before .before .before .before .before .before .before .before .before .pre .0) .corners-most, c .before .before .before .before .before .before .before .before .before .before .before .pre .1 .0), subst (λ (k : ℕ). Numbers (c .before .before .before .before .before .before .before .before .before .before .before .args .text .now) (c .before .before .before .before .before .collect .last .1 .0) k) (sym (c .before .before .before .before .before .before .before .before .before .before .before .pre .1 .0)) (table (c .before .before .before .before .before .before .before .before .before .before .before .args .text .now) (replicate {A = ℕ} 16384 0) _ (omega arith) (accepted (c .before .before .before .before .before .before .before .before .before .before .before .args .text .now) (length (c .before .before .before .before .before .before .before .before .before .before .before .args .job .now)) (length (now (c .before .before .before .before .before .before .before .before .before .before .before .args .out))) (c .before .before .before .before .before .before .before .before .before .before .before .pre .0) .lines) (accepted (c .before .before .before .before .before .before .before .before .before .before .before .args .text .now) (length (c .before .before .before .before .before .before .before .before .before .before .before .args .job .now)) (length (now (c .before .before .before .before .before .before .before .before .before .before .before .args .out))) (c .before .before .before .before .before .before .before .before .before .before .before .pre .0) .corners-most) (length-replicate {A = ℕ} 16384 0) (c .before .before .before .before .before .collect .ensures .numbers-all) .numbered)))
+put-corners-requires c κs = let a = accepted (c .before .before .before .before .before .before .before .before .before .before .before .args .text .now) (length (c .before .before .before .before .before .before .before .before .before .before .before .args .job .now)) (length (now (c .before .before .before .before .before .before .before .before .before .before .before .args .out))) (c .before .before .before .before .before .before .before .before .before .before .before .pre .0) in let t = table (c .before .before .before .before .before .before .before .before .before .before .before .args .text .now) (replicate {A = ℕ} 16384 0) _ (omega arith) (a .lines) (a .corners-most) (length-replicate {A = ℕ} 16384 0) (c .before .before .before .before .before .collect .ensures .numbers-all) in (omega (arith, t .long, a .corners-most, c .before .before .before .before .before .before .before .before .before .before .before .pre .1 .0), (omega (arith, a .corners-most, c .before .before .before .before .before .before .before .before .before .before .before .pre .1 .0), subst (λ (k : ℕ). Numbers (c .before .before .before .before .before .before .before .before .before .before .before .args .text .now) (c .before .before .before .before .before .collect .last .1 .0) k) (sym (c .before .before .before .before .before .before .before .before .before .before .before .pre .1 .0)) (t .numbered)))
 
 mul-put-end : tie.Need-mul-put-end
-mul-put-end c = omega (arith, accepted (c .before .before .before .before .before .before .before .before .before .before .before .before .before .before .before .args .text .now) (length (c .before .before .before .before .before .before .before .before .before .before .before .before .before .before .before .args .job .now)) (length (now (c .before .before .before .before .before .before .before .before .before .before .before .before .before .before .before .args .out))) (c .before .before .before .before .before .before .before .before .before .before .before .before .before .before .before .pre .0) .faces-most, c .before .before .before .before .before .before .before .before .before .before .before .before .before .before .before .pre .1 .1)
+mul-put-end c = let a = accepted (c .before .before .before .before .before .before .before .before .before .before .before .before .before .before .before .args .text .now) (length (c .before .before .before .before .before .before .before .before .before .before .before .before .before .before .before .args .job .now)) (length (now (c .before .before .before .before .before .before .before .before .before .before .before .before .before .before .before .args .out))) (c .before .before .before .before .before .before .before .before .before .before .before .before .before .before .before .pre .0) in omega (arith, a .faces-most, c .before .before .before .before .before .before .before .before .before .before .before .before .before .before .before .pre .1 .1)
 
 add-put-end : tie.Need-add-put-end
-add-put-end c = omega (arith, accepted (c .before .before .before .before .before .before .before .before .before .before .before .before .before .before .before .args .text .now) (length (c .before .before .before .before .before .before .before .before .before .before .before .before .before .before .before .args .job .now)) (length (now (c .before .before .before .before .before .before .before .before .before .before .before .before .before .before .before .args .out))) (c .before .before .before .before .before .before .before .before .before .before .before .before .before .before .before .pre .0) .faces-most, c .before .before .before .before .before .before .before .before .before .before .before .before .before .before .before .pre .1 .1, next-most (c .before .before .before .before .before .before .before .before .before .before .before .before .before .before .before .args .text .now) _ (c .before .before .before .before .before .before .before .before .before .before .before .before .before .before .before .args .vertices) (omega (arith, accepted (c .before .before .before .before .before .before .before .before .before .before .before .before .before .before .before .args .text .now) (length (c .before .before .before .before .before .before .before .before .before .before .before .before .before .before .before .args .job .now)) (length (now (c .before .before .before .before .before .before .before .before .before .before .before .before .before .before .before .args .out))) (c .before .before .before .before .before .before .before .before .before .before .before .before .before .before .before .pre .0) .corners-most, c .before .before .before .before .before .before .before .before .before .before .before .before .before .before .before .pre .1 .0)) (omega (arith, table (c .before .before .before .before .before .before .before .before .before .before .before .before .before .before .before .args .text .now) (replicate {A = ℕ} 16384 0) _ (omega arith) (accepted (c .before .before .before .before .before .before .before .before .before .before .before .before .before .before .before .args .text .now) (length (c .before .before .before .before .before .before .before .before .before .before .before .before .before .before .before .args .job .now)) (length (now (c .before .before .before .before .before .before .before .before .before .before .before .before .before .before .before .args .out))) (c .before .before .before .before .before .before .before .before .before .before .before .before .before .before .before .pre .0) .lines) (accepted (c .before .before .before .before .before .before .before .before .before .before .before .before .before .before .before .args .text .now) (length (c .before .before .before .before .before .before .before .before .before .before .before .before .before .before .before .args .job .now)) (length (now (c .before .before .before .before .before .before .before .before .before .before .before .before .before .before .before .args .out))) (c .before .before .before .before .before .before .before .before .before .before .before .before .before .before .before .pre .0) .corners-most) (length-replicate {A = ℕ} 16384 0) (c .before .before .before .before .before .before .before .before .before .collect .ensures .numbers-all) .long, accepted (c .before .before .before .before .before .before .before .before .before .before .before .before .before .before .before .args .text .now) (length (c .before .before .before .before .before .before .before .before .before .before .before .before .before .before .before .args .job .now)) (length (now (c .before .before .before .before .before .before .before .before .before .before .before .before .before .before .before .args .out))) (c .before .before .before .before .before .before .before .before .before .before .before .before .before .before .before .pre .0) .corners-most, c .before .before .before .before .before .before .before .before .before .before .before .before .before .before .before .pre .1 .0)) (c .before .before .before .put-corners .ensures))
+add-put-end c = let a = accepted (c .before .before .before .before .before .before .before .before .before .before .before .before .before .before .before .args .text .now) (length (c .before .before .before .before .before .before .before .before .before .before .before .before .before .before .before .args .job .now)) (length (now (c .before .before .before .before .before .before .before .before .before .before .before .before .before .before .before .args .out))) (c .before .before .before .before .before .before .before .before .before .before .before .before .before .before .before .pre .0) in let t = table (c .before .before .before .before .before .before .before .before .before .before .before .before .before .before .before .args .text .now) (replicate {A = ℕ} 16384 0) _ (omega arith) (a .lines) (a .corners-most) (length-replicate {A = ℕ} 16384 0) (c .before .before .before .before .before .before .before .before .before .collect .ensures .numbers-all) in omega (arith, a .faces-most, c .before .before .before .before .before .before .before .before .before .before .before .before .before .before .before .pre .1 .1, next-most (c .before .before .before .before .before .before .before .before .before .before .before .before .before .before .before .args .text .now) _ (c .before .before .before .before .before .before .before .before .before .before .before .before .before .before .before .args .vertices) (omega (arith, a .corners-most, c .before .before .before .before .before .before .before .before .before .before .before .before .before .before .before .pre .1 .0)) (omega (arith, t .long, a .corners-most, c .before .before .before .before .before .before .before .before .before .before .before .before .before .before .before .pre .1 .0)) (c .before .before .before .put-corners .ensures))
 
 put-end-requires : tie.Need-put-end-requires
-put-end-requires c κs = (omega (arith, accepted (c .before .before .before .before .before .before .before .before .before .before .before .before .before .before .before .args .text .now) (length (c .before .before .before .before .before .before .before .before .before .before .before .before .before .before .before .args .job .now)) (length (now (c .before .before .before .before .before .before .before .before .before .before .before .before .before .before .before .args .out))) (c .before .before .before .before .before .before .before .before .before .before .before .before .before .before .before .pre .0) .corners-most, c .before .before .before .before .before .before .before .before .before .before .before .before .before .before .before .pre .1 .0), omega (arith, accepted (c .before .before .before .before .before .before .before .before .before .before .before .before .before .before .before .args .text .now) (length (c .before .before .before .before .before .before .before .before .before .before .before .before .before .before .before .args .job .now)) (length (now (c .before .before .before .before .before .before .before .before .before .before .before .before .before .before .before .args .out))) (c .before .before .before .before .before .before .before .before .before .before .before .before .before .before .before .pre .0) .faces-most, c .before .before .before .before .before .before .before .before .before .before .before .before .before .before .before .pre .1 .1))
+put-end-requires c κs = let a = accepted (c .before .before .before .before .before .before .before .before .before .before .before .before .before .before .before .args .text .now) (length (c .before .before .before .before .before .before .before .before .before .before .before .before .before .before .before .args .job .now)) (length (now (c .before .before .before .before .before .before .before .before .before .before .before .before .before .before .before .args .out))) (c .before .before .before .before .before .before .before .before .before .before .before .before .before .before .before .pre .0) in (omega (arith, a .corners-most, c .before .before .before .before .before .before .before .before .before .before .before .before .before .before .before .pre .1 .0), omega (arith, a .faces-most, c .before .before .before .before .before .before .before .before .before .before .before .before .before .before .before .pre .1 .1))
 
 same-length : tie.Need-same-length
 same-length c = put-length _ (c .before .before .put-end .ensures) ∙ put-length _ (c .before .before .before .before .before .before .put-corners .ensures) ∙ over-length _ _ _ _ (c .before .before .before .before .before .before .before .before .before .before .before .before .collect .ensures .polygons-all)
 
 returns : tie.Need-returns
-returns c = written (c .before .before .before .before .before .before .before .before .before .before .before .before .before .before .before .before .before .before .args .text .now) (c .before .before .before .before .before .before .before .before .before .before .before .before .before .before .before .before .before .before .args .job .now) (now (c .before .before .before .before .before .before .before .before .before .before .before .before .before .before .before .before .before .before .args .out)) _ _ _ (c .before .before .before .before .before .before .before .before .before .before .before .before .before .before .before .before .before .before .args .vertices) (c .before .before .before .before .before .before .before .before .before .before .before .before .before .before .before .before .before .before .args .polygons) _ _ _ (accepted (c .before .before .before .before .before .before .before .before .before .before .before .before .before .before .before .before .before .before .args .text .now) (length (c .before .before .before .before .before .before .before .before .before .before .before .before .before .before .before .before .before .before .args .job .now)) (length (now (c .before .before .before .before .before .before .before .before .before .before .before .before .before .before .before .before .before .before .args .out))) (c .before .before .before .before .before .before .before .before .before .before .before .before .before .before .before .before .before .before .pre .0) .room-enough) (accepted (c .before .before .before .before .before .before .before .before .before .before .before .before .before .before .before .before .before .before .args .text .now) (length (c .before .before .before .before .before .before .before .before .before .before .before .before .before .before .before .before .before .before .args .job .now)) (length (now (c .before .before .before .before .before .before .before .before .before .before .before .before .before .before .before .before .before .before .args .out))) (c .before .before .before .before .before .before .before .before .before .before .before .before .before .before .before .before .before .before .pre .0) .job-long) (omega arith) (c .before .before .before .before .before .before .before .before .before .before .before .before .before .before .before .before .before .before .pre .1 .0) (c .before .before .before .before .before .before .before .before .before .before .before .before .before .before .before .before .before .before .pre .1 .1) (c .before .before .before .before .before .before .before .before .before .before .before .before .collect .ensures .polygons-all) (put-same _ _ (ap (vertexBlock (c .before .before .before .before .before .before .before .before .before .before .before .before .before .before .before .before .before .before .args .text .now)) (ap (λ (k : ℕ). take k (c .before .before .before .before .before .before .before .before .before .before .before .before .collect .last .1 .0)) (c .before .before .before .before .before .before .before .before .before .before .before .before .before .before .before .before .before .before .pre .1 .0) ∙ table (c .before .before .before .before .before .before .before .before .before .before .before .before .before .before .before .before .before .before .args .text .now) (replicate {A = ℕ} 16384 0) _ (omega arith) (accepted (c .before .before .before .before .before .before .before .before .before .before .before .before .before .before .before .before .before .before .args .text .now) (length (c .before .before .before .before .before .before .before .before .before .before .before .before .before .before .before .before .before .before .args .job .now)) (length (now (c .before .before .before .before .before .before .before .before .before .before .before .before .before .before .before .before .before .before .args .out))) (c .before .before .before .before .before .before .before .before .before .before .before .before .before .before .before .before .before .before .pre .0) .lines) (accepted (c .before .before .before .before .before .before .before .before .before .before .before .before .before .before .before .before .before .before .args .text .now) (length (c .before .before .before .before .before .before .before .before .before .before .before .before .before .before .before .before .before .before .args .job .now)) (length (now (c .before .before .before .before .before .before .before .before .before .before .before .before .before .before .before .before .before .before .args .out))) (c .before .before .before .before .before .before .before .before .before .before .before .before .before .before .before .before .before .before .pre .0) .corners-most) (length-replicate {A = ℕ} 16384 0) (c .before .before .before .before .before .before .before .before .before .before .before .before .collect .ensures .numbers-all) .first)) (c .before .before .before .before .before .before .put-corners .ensures)) refl (c .before .before .put-end .ensures)
+returns c = let a = accepted (c .before .before .before .before .before .before .before .before .before .before .before .before .before .before .before .before .before .before .args .text .now) (length (c .before .before .before .before .before .before .before .before .before .before .before .before .before .before .before .before .before .before .args .job .now)) (length (now (c .before .before .before .before .before .before .before .before .before .before .before .before .before .before .before .before .before .before .args .out))) (c .before .before .before .before .before .before .before .before .before .before .before .before .before .before .before .before .before .before .pre .0) in let t = table (c .before .before .before .before .before .before .before .before .before .before .before .before .before .before .before .before .before .before .args .text .now) (replicate {A = ℕ} 16384 0) _ (omega arith) (a .lines) (a .corners-most) (length-replicate {A = ℕ} 16384 0) (c .before .before .before .before .before .before .before .before .before .before .before .before .collect .ensures .numbers-all) in written (c .before .before .before .before .before .before .before .before .before .before .before .before .before .before .before .before .before .before .args .text .now) (c .before .before .before .before .before .before .before .before .before .before .before .before .before .before .before .before .before .before .args .job .now) (now (c .before .before .before .before .before .before .before .before .before .before .before .before .before .before .before .before .before .before .args .out)) _ _ _ (c .before .before .before .before .before .before .before .before .before .before .before .before .before .before .before .before .before .before .args .vertices) (c .before .before .before .before .before .before .before .before .before .before .before .before .before .before .before .before .before .before .args .polygons) _ _ _ (a .room-enough) (a .job-long) (omega arith) (c .before .before .before .before .before .before .before .before .before .before .before .before .before .before .before .before .before .before .pre .1 .0) (c .before .before .before .before .before .before .before .before .before .before .before .before .before .before .before .before .before .before .pre .1 .1) (c .before .before .before .before .before .before .before .before .before .before .before .before .collect .ensures .polygons-all) (put-same _ _ (ap (vertexBlock (c .before .before .before .before .before .before .before .before .before .before .before .before .before .before .before .before .before .before .args .text .now)) (ap (λ (k : ℕ). take k (c .before .before .before .before .before .before .before .before .before .before .before .before .collect .last .1 .0)) (c .before .before .before .before .before .before .before .before .before .before .before .before .before .before .before .before .before .before .pre .1 .0) ∙ t .first)) (c .before .before .before .before .before .before .put-corners .ensures)) refl (c .before .before .put-end .ensures)
 
 pub write-spec : {M : Type 1} → statement M
 write-spec =

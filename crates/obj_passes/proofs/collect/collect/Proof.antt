@@ -61,7 +61,7 @@ part-collect-line-end : tie.Need-part-collect-line-end Inv-loop μ-loop
 part-collect-line-end c = end-inside (c .before .before .before .before .before .before .before .before .before .args .text .now) (c .before .before .before .before .before .loop .at) (c .before .before .find .result) (omega (arith, c .before .before .before .before .loop-test .taken)) (c .before .before .find .ensures ∙ ap (λ (l : List ℕ). length (before 10 l)) (part-all _ (c .before .before .before .before .before .before .before .before .before .args .text .now)))
 
 collect-line-requires : tie.Need-collect-line-requires Inv-loop μ-loop
-collect-line-requires c κs = (c .before .before .before .read-line .ensures, (omega (arith, left-fits (subst (λ (fs : List Form). Left (c .before .before .before .before .before .before .before .before .before .before .before .before .args .text .now) (c .before .before .before .before .before .before .before .before .before .before .before .before .args .from) (now (c .before .before .before .before .before .before .before .before .before .before .before .before .args .numbers)) (now (c .before .before .before .before .before .before .before .before .before .before .before .before .args .out)) fs (c .before .before .before .before .before .before .before .before .loop .s) (c .before .before .before .before .before .before .before .before .loop .numbers) (c .before .before .before .before .before .before .before .before .loop .out)) (forms-step (c .before .before .before .before .before .before .before .before .before .before .before .before .args .text .now) (c .before .before .before .before .before .before .before .before .loop .at) (c .before .before .before .before .before .find .result) (omega (arith, c .before .before .before .before .before .before .before .loop-test .taken)) (c .before .before .before .before .before .find .ensures ∙ ap (λ (l : List ℕ). length (before 10 l)) (part-all _ (c .before .before .before .before .before .before .before .before .before .before .before .before .args .text .now)))) (c .before .before .before .before .before .before .before .before .loop .inv .1)), c .before .before .before .before .before .before .before .before .loop .inv .1 .numbers-long, c .before .before .before .before .before .before .before .before .before .before .before .before .pre .0, c .before .before .before .before .before .before .before .before .before .before .before .before .pre .1 .0), c .before .before .before .before .before .before .before .before .loop .inv .1 .numbers-long ∙ c .before .before .before .before .before .before .before .before .before .before .before .before .pre .1 .0))
+collect-line-requires c κs = let k = left-fits (subst (λ (fs : List Form). Left (c .before .before .before .before .before .before .before .before .before .before .before .before .args .text .now) (c .before .before .before .before .before .before .before .before .before .before .before .before .args .from) (now (c .before .before .before .before .before .before .before .before .before .before .before .before .args .numbers)) (now (c .before .before .before .before .before .before .before .before .before .before .before .before .args .out)) fs (c .before .before .before .before .before .before .before .before .loop .s) (c .before .before .before .before .before .before .before .before .loop .numbers) (c .before .before .before .before .before .before .before .before .loop .out)) (forms-step (c .before .before .before .before .before .before .before .before .before .before .before .before .args .text .now) (c .before .before .before .before .before .before .before .before .loop .at) (c .before .before .before .before .before .find .result) (omega (arith, c .before .before .before .before .before .before .before .loop-test .taken)) (c .before .before .before .before .before .find .ensures ∙ ap (λ (l : List ℕ). length (before 10 l)) (part-all _ (c .before .before .before .before .before .before .before .before .before .before .before .before .args .text .now)))) (c .before .before .before .before .before .before .before .before .loop .inv .1)) in (c .before .before .before .read-line .ensures, (omega (arith, k, c .before .before .before .before .before .before .before .before .loop .inv .1 .numbers-long, c .before .before .before .before .before .before .before .before .before .before .before .before .pre .0, c .before .before .before .before .before .before .before .before .before .before .before .before .pre .1 .0), c .before .before .before .before .before .before .before .before .loop .inv .1 .numbers-long ∙ c .before .before .before .before .before .before .before .before .before .before .before .before .pre .1 .0))
 
 add-at : tie.Need-add-at Inv-loop μ-loop
 add-at c = omega (arith, end-inside (c .before .before .before .before .before .before .before .before .before .before .before .before .before .before .before .before .before .args .text .now) (c .before .before .before .before .before .before .before .before .before .before .before .before .before .loop .at) (c .before .before .before .before .before .before .before .before .before .before .find .result) (omega (arith, c .before .before .before .before .before .before .before .before .before .before .before .before .loop-test .taken)) (c .before .before .before .before .before .before .before .before .before .before .find .ensures ∙ ap (λ (l : List ℕ). length (before 10 l)) (part-all _ (c .before .before .before .before .before .before .before .before .before .before .before .before .before .before .before .before .before .args .text .now))))
@@ -70,7 +70,7 @@ loop-less : tie.Need-loop-less Inv-loop μ-loop
 loop-less c = omega (arith, end-inside (c .before .before .before .before .before .before .before .before .before .before .before .before .before .before .before .before .before .args .text .now) (c .before .before .before .before .before .before .before .before .before .before .before .before .before .loop .at) (c .before .before .before .before .before .before .before .before .before .before .find .result) (omega (arith, c .before .before .before .before .before .before .before .before .before .before .before .before .loop-test .taken)) (c .before .before .before .before .before .before .before .before .before .before .find .ensures ∙ ap (λ (l : List ℕ). length (before 10 l)) (part-all _ (c .before .before .before .before .before .before .before .before .before .before .before .before .before .before .before .before .before .args .text .now))))
 
 loop-again : tie.Need-loop-again Inv-loop μ-loop
-loop-again c = (omega (arith, end-inside (c .before .before .before .before .before .before .before .before .before .before .before .before .before .before .before .before .before .args .text .now) (c .before .before .before .before .before .before .before .before .before .before .before .before .before .loop .at) (c .before .before .before .before .before .before .before .before .before .before .find .result) (omega (arith, c .before .before .before .before .before .before .before .before .before .before .before .before .loop-test .taken)) (c .before .before .before .before .before .before .before .before .before .before .find .ensures ∙ ap (λ (l : List ℕ). length (before 10 l)) (part-all _ (c .before .before .before .before .before .before .before .before .before .before .before .before .before .before .before .before .before .args .text .now)))), left-step (subst (λ (fs : List Form). Left (c .before .before .before .before .before .before .before .before .before .before .before .before .before .before .before .before .before .args .text .now) (c .before .before .before .before .before .before .before .before .before .before .before .before .before .before .before .before .before .args .from) (now (c .before .before .before .before .before .before .before .before .before .before .before .before .before .before .before .before .before .args .numbers)) (now (c .before .before .before .before .before .before .before .before .before .before .before .before .before .before .before .before .before .args .out)) fs (c .before .before .before .before .before .before .before .before .before .before .before .before .before .loop .s) (c .before .before .before .before .before .before .before .before .before .before .before .before .before .loop .numbers) (c .before .before .before .before .before .before .before .before .before .before .before .before .before .loop .out)) (forms-step (c .before .before .before .before .before .before .before .before .before .before .before .before .before .before .before .before .before .args .text .now) (c .before .before .before .before .before .before .before .before .before .before .before .before .before .loop .at) (c .before .before .before .before .before .before .before .before .before .before .find .result) (omega (arith, c .before .before .before .before .before .before .before .before .before .before .before .before .loop-test .taken)) (c .before .before .before .before .before .before .before .before .before .before .find .ensures ∙ ap (λ (l : List ℕ). length (before 10 l)) (part-all _ (c .before .before .before .before .before .before .before .before .before .before .before .before .before .before .before .before .before .args .text .now)))) (c .before .before .before .before .before .before .before .before .before .before .before .before .before .loop .inv .1)) _ _ _ (c .before .before .before .before .before .before .before .before .before .before .before .before .before .before .before .before .before .pre .1 .1) (c .before .before .before .before .collect-line .ensures))
+loop-again c = let e = end-inside (c .before .before .before .before .before .before .before .before .before .before .before .before .before .before .before .before .before .args .text .now) (c .before .before .before .before .before .before .before .before .before .before .before .before .before .loop .at) (c .before .before .before .before .before .before .before .before .before .before .find .result) (omega (arith, c .before .before .before .before .before .before .before .before .before .before .before .before .loop-test .taken)) (c .before .before .before .before .before .before .before .before .before .before .find .ensures ∙ ap (λ (l : List ℕ). length (before 10 l)) (part-all _ (c .before .before .before .before .before .before .before .before .before .before .before .before .before .before .before .before .before .args .text .now))) in (omega (arith, e), left-step (subst (λ (fs : List Form). Left (c .before .before .before .before .before .before .before .before .before .before .before .before .before .before .before .before .before .args .text .now) (c .before .before .before .before .before .before .before .before .before .before .before .before .before .before .before .before .before .args .from) (now (c .before .before .before .before .before .before .before .before .before .before .before .before .before .before .before .before .before .args .numbers)) (now (c .before .before .before .before .before .before .before .before .before .before .before .before .before .before .before .before .before .args .out)) fs (c .before .before .before .before .before .before .before .before .before .before .before .before .before .loop .s) (c .before .before .before .before .before .before .before .before .before .before .before .before .before .loop .numbers) (c .before .before .before .before .before .before .before .before .before .before .before .before .before .loop .out)) (forms-step (c .before .before .before .before .before .before .before .before .before .before .before .before .before .before .before .before .before .args .text .now) (c .before .before .before .before .before .before .before .before .before .before .before .before .before .loop .at) (c .before .before .before .before .before .before .before .before .before .before .find .result) (omega (arith, c .before .before .before .before .before .before .before .before .before .before .before .before .loop-test .taken)) (c .before .before .before .before .before .before .before .before .before .before .find .ensures ∙ ap (λ (l : List ℕ). length (before 10 l)) (part-all _ (c .before .before .before .before .before .before .before .before .before .before .before .before .before .before .before .before .before .args .text .now)))) (c .before .before .before .before .before .before .before .before .before .before .before .before .before .loop .inv .1)) _ _ _ (c .before .before .before .before .before .before .before .before .before .before .before .before .before .before .before .before .before .pre .1 .1) (c .before .before .before .before .collect-line .ensures))
 
 same-length : tie.Need-same-length Inv-loop μ-loop
 same-length c = c .before .loop .inv .1 .numbers-long

@@ -15,7 +15,7 @@ enum-known-form : tie.Need-enum-known-form
 enum-known-form c = search needs
 
 push-numbers-requires : tie.Need-push-numbers-requires
-push-numbers-requires c κs = (face-is (c .before .before .before .before .before .before .before .args .line .now) (c .before .before .before .before .before .before .before .args .form) _ (c .before .before .before .before .before .before .before .pre .0) (c .before .before .form .given .1) .positive, omega (arith, face-is (c .before .before .before .before .before .before .before .args .line .now) (c .before .before .before .before .before .before .before .args .form) _ (c .before .before .before .before .before .before .before .pre .0) (c .before .before .form .given .1) .count-fields, c .before .before .before .before .before .before .before .pre .1 .0))
+push-numbers-requires c κs = let f = face-is (c .before .before .before .before .before .before .before .args .line .now) (c .before .before .before .before .before .before .before .args .form) _ (c .before .before .before .before .before .before .before .pre .0) (c .before .before .form .given .1) in (f .positive, omega (arith, f .count-fields, c .before .before .before .before .before .before .before .pre .1 .0))
 
 cast-put-entry : tie.Need-cast-put-entry
 cast-put-entry c = omega (arith, c .before .before .before .before .before .before .before .before .before .before .before .pre .1 .0, c .before .before .before .before .before .before .before .before .before .before .before .pre .1 .1)
