@@ -108,7 +108,8 @@ typedef char gablemadder_fault_row_has_48_bytes[sizeof(gablemadder_fault_row) ==
  *   1 to 10      nothing is changed
  *
  * Enough for every file: GABLEMADDER_WORDS and GABLEMADDER_REALS of its V and P, 2,048 rows, GABLEMADDER_MOST_REPORT bytes. What is lent
- * beyond that serves nothing, and is cleared too. The report is text in UTF-8, each line ended by a line feed, with no zero at its end:
+ * beyond that serves nothing, and is cleared too. For small parts it is faster to lend at most 64 rows, and more only on 11. The report is
+ * text in UTF-8, each line ended by a line feed, with no zero at its end:
  *
  *   findings thickness bends height            the number of lines that follow; lengths as the 16 hexadecimal digits of the f64, - for none
  *   severity|rule|count|faces|message          a line for each finding; a face is feature:index, a comma between faces, - for none;

@@ -68,8 +68,10 @@ use oracle::check::Checked;
 use std::hint::black_box;
 use timed::Timed;
 
-/// What the program lends, and what there may be at the most.
-const ROWS: [usize; 2] = [512, 2048];
+/// The rows that the Rust package lends: to a small file, to others at first, and at the most.
+const ROWS: [usize; 3] = [64, 256, 2048];
+/// A small file, in bytes.
+const SMALL_FILE: usize = 11_408;
 const REPORT: usize = 1 << 20;
 /// Parts of fewer polygons are to take no longer than as published.
 const SMALL: usize = 800;
@@ -83,8 +85,9 @@ struct Lent {
 }
 
 impl Lent {
-    fn new(checked: &Checked) -> Lent {
-        let rows = if checked.faults <= ROWS[0] { ROWS[0] } else { ROWS[1] };
+    fn new(file: &[u8], checked: &Checked) -> Lent {
+        let first = usize::from(file.len() > SMALL_FILE);
+        let rows = if checked.faults <= ROWS[first] { ROWS[first] } else { ROWS[2] };
         Lent {
             words: vec![0; checked.words],
             reals: vec![0.0; checked.reals],
@@ -121,7 +124,7 @@ fn rounds(polygons: usize) -> usize {
 fn whole(name: &str, part: &Timed) -> (usize, [f64; 2]) {
     let (file, polygons) = (&part.file[..], Blocks::of(&part.file).expect("a good file").polygons);
     let checked = Checked::of(file).ok().expect("an accepted file");
-    let mut lent = Lent::new(&checked);
+    let mut lent = Lent::new(file, &checked);
     lent.is_same(part, &checked);
     let [ours, theirs, other] = best_of(
         rounds(polygons),
@@ -152,8 +155,8 @@ fn whole(name: &str, part: &Timed) -> (usize, [f64; 2]) {
 fn merging(part: &Timed) -> f64 {
     let file = &part.file[..];
     let checked = Checked::of(file).ok().expect("an accepted file");
-    let mut lent = Lent::new(&checked);
-    let mut other = Lent::new(&checked);
+    let mut lent = Lent::new(file, &checked);
+    let mut other = Lent::new(file, &checked);
     lent.is_same(part, &checked);
     assert_eq!(lent.find(file, checked.faults), 11, "{}: a row too few", part.name);
     let process = oracle::faults::Process::ALL[part.process as usize];

@@ -1,9 +1,15 @@
 //! The forms of the check that own their buffers.
 use crate::{check_with, FaultRow, Refusal, Report, Scratch, MOST_POLYGONS, MOST_REPORT, MOST_ROWS, MOST_VERTICES};
 
+/// Rows and bytes for the report. All rows that are lent are cleared, and where they are more than 64 the library zeroes cells of its own for 2,048, which
+/// takes a fifth of the check of a small part. So a small part is lent 64, and on refusal 11 or 12 as many as there may be, in a second call.
+const FEW: (usize, usize) = (64, 32_768);
 /// Most parts have fewer faults, and shorter reports.
-const FIRST_ROWS: usize = 256;
-const FIRST_REPORT: usize = 32_768;
+const FIRST: (usize, usize) = (256, 32_768);
+const MOST: (usize, usize) = (MOST_ROWS, MOST_REPORT);
+
+/// A part file of 64 polygons, of four vertices each, in bytes.
+const SMALL: usize = 24 * 256 + 80 * 64 + 144;
 
 /// Checks a part file, with buffers of the right sizes for it.
 ///
@@ -22,7 +28,8 @@ pub fn check(file: &[u8]) -> Result<Report<'static>, Refusal> {
 ///
 /// The first part allocates what any part may need, below 4 MiB, and nothing is allocated after it: not for a larger part, nor to read its report. At
 /// first 256 rows and 32,768 bytes for the report are lent, since all that is lent is cleared. The first part for which these are too few is checked a
-/// second time, with [`MOST_ROWS`] and [`MOST_REPORT`], and all parts after it are lent as many.
+/// second time, with [`MOST_ROWS`] and [`MOST_REPORT`], and all parts after it are lent as many. A part file of at most 11,408 bytes, which is one of
+/// about 64 polygons, is lent 64 rows, and checked a second time only where these are too few.
 ///
 /// ```
 /// # fn main() -> Result<(), Box<dyn std::error::Error>> {
@@ -41,7 +48,7 @@ pub struct Checker {
     reals: Vec<f64>,
     rows: Vec<FaultRow>,
     report: Vec<u8>,
-    /// A part has needed more rows, or a longer report, than are lent at first.
+    /// A part that is not small has needed more rows, or a longer report, than are lent at first.
     lends_most: bool,
 }
 
@@ -63,19 +70,26 @@ impl Checker {
 
     /// The same in buffers that grow only as this part needs.
     fn run(&mut self, file: &[u8]) -> Result<Report<'_>, Refusal> {
-        let mut answer = self.attempt(file);
-        if matches!(answer, Err(Refusal::TooManyFaults | Refusal::ReportTooLong)) && !self.lends_most {
-            self.lends_most = true;
-            answer = self.attempt(file);
+        let is_small = file.len() <= SMALL;
+        let lent = if is_small {
+            FEW
+        } else if self.lends_most {
+            MOST
+        } else {
+            FIRST
+        };
+        let mut answer = self.attempt(file, lent);
+        if matches!(answer, Err(Refusal::TooManyFaults | Refusal::ReportTooLong)) && lent != MOST {
+            self.lends_most |= !is_small;
+            answer = self.attempt(file, MOST);
         }
         let report = Report::parse(&self.report[..answer?]);
         Ok(report.expect("the library's reports are well formed"))
     }
 
     /// The report's length.
-    fn attempt(&mut self, file: &[u8]) -> Result<usize, Refusal> {
+    fn attempt(&mut self, file: &[u8], (rows, report): (usize, usize)) -> Result<usize, Refusal> {
         let scratch = Scratch::of(file);
-        let (rows, report) = if self.lends_most { (MOST_ROWS, MOST_REPORT) } else { (FIRST_ROWS, FIRST_REPORT) };
         let words = grown(&mut self.words, scratch.words);
         let reals = grown(&mut self.reals, scratch.reals);
         let rows = grown(&mut self.rows, rows);

@@ -133,6 +133,15 @@ fn a_long_report_comes_whole() {
 }
 
 #[test]
+fn a_small_part_may_have_more_faults_than_rows_lent_first() {
+    // one fault more says that the body is not closed
+    for count in [62, 63, 64] {
+        let report = check(&hollows(count)).unwrap();
+        assert_eq!(report.findings().count(), count + 1);
+    }
+}
+
+#[test]
 fn a_checker_answers_as_check_does() {
     let mut checker = Checker::new();
     let files = [
@@ -141,8 +150,10 @@ fn a_checker_answers_as_check_does() {
         part(CNC, &[]),
         vec![0; 9],
         hollows(MOST_ROWS),
+        hollows(64),
         largest(SLS),
         part(FDM, &cuboid(4, [9.0, 8.0, 0.3])),
+        hollows(63),
         plate(),
     ];
     for file in &files {

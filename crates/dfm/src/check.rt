@@ -68,8 +68,8 @@ fn check_many(
 }
 
 // Checks a part file. As many fault rows are lent as `rows` has, up to 2,048. A refusal from 1 to 10 changes nothing; else the scratch and the rows are
-// all zero then, and the report's first bytes hold the report, where it is accepted. Cells for 2,048 rows take about 2 µs to zero, so a caller that
-// lends at most 64 rows has cells for no more than those.
+// all zero then, and the report's first bytes hold the report, where it is accepted. To zero cells for 2,048 rows takes a fifth of the check of a small
+// part, so there are cells for 64 where no more are lent.
 pub fn check(
     file: &[u8],
     words: &mut [u32],
