@@ -52,7 +52,17 @@ fn read(checker: &mut Checker, file: &[u8]) -> usize {
 #[test]
 fn nothing_is_allocated_after_the_first() {
     let (large, long) = (largest(CNC), hollows(MOST_ROWS - 1));
-    let others = [part(FDM, &cuboid(2, [30.0, 2.0, 0.1])), part(CNC, &[]), vec![1; 7], hollows(64), large, long, hollows(MOST_ROWS), largest(SLS), hollows(700)];
+    let others = [
+        part(FDM, &cuboid(2, [30.0, 2.0, 0.1])),
+        part(CNC, &[]),
+        vec![1; 7],
+        hollows(64),
+        large,
+        long,
+        hollows(MOST_ROWS),
+        largest(SLS),
+        hollows(700),
+    ];
     let mut checker = Checker::new();
     let before = ALLOCATIONS.get();
     let first = read(&mut checker, &plate());
