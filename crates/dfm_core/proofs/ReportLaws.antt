@@ -14,7 +14,7 @@ use Rattle.math.specs.Vector.{zero as nought}
 use Rattle.file_part.specs.Part.{Part, partOf}
 use Rattle.solid_faces.specs.Faces.{facesOf}
 use Rattle.scratch.specs.declared.regions.Regions.{Regions}
-use Rattle.scratch.specs.Regions.{regionsOf}
+use Rattle.scratch.specs.Work.{regionsOf}
 use Rattle.scratch.specs.Refusal.{bodyRefusal}
 use Rattle.scratch.specs.Standing.{Placed}
 use Rattle.scratch.proofs.RegionLaws.{only-regions}
@@ -26,9 +26,9 @@ use Rattle.fault_row.specs.Row.{rowAt, rowRoom}
 use Rattle.fault_row.specs.Summary.{noSummary}
 use Rattle.fault_lines.specs.Lines.{linesOf}
 use Rattle.fault_text.specs.Meaning.{faultOf, GoodRow}
-use Rattle.fault_merge.specs.Rows.{faultsTo}
+use Rattle.fault_merge.specs.Work.{faultsTo}
 use Rattle.fault_merge.proofs.RowLaws.{rows-put, rows-good}
-use Rattle.report_faces.specs.Ready.{Told, Kept}
+use Rattle.report_faces.specs.Work.{Told, Kept}
 use Rattle.report.specs.declared.report.Written.{Written}
 use Rattle.report.specs.declared.report.Written.the-variants.{Bytes, TooLong}
 use Rattle.report.specs.Text.{reportText}

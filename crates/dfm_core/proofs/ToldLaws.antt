@@ -55,7 +55,7 @@ use Rattle.rule_sheet.specs.All.{unevenFault, bentFaults, isMeasured, formedFau
 use Rattle.rule_printing.specs.Closed as closed
 use Rattle.rule_printing.specs.Rules as print
 use Rattle.rule_printing.specs.All.{printing, PrintingPut}
-use Rattle.report_faces.specs.Ready.{Told}
+use Rattle.report_faces.specs.Work.{Told}
 
 -- ---- every fault of a list
 record Each (P : Fault → Type 0) (fs : List Fault) : Type 0 where

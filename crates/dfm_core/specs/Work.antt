@@ -21,13 +21,13 @@ use Rattle.fault_row.specs.Faults.{FaultsPut}
 use Rattle.fault_row.specs.Summary.{noSummary}
 use Rattle.fault_lines.specs.Lines.{linesOf}
 use Rattle.fault_text.specs.Meaning.{faultOf, GoodRow}
-use Rattle.fault_merge.specs.Rows.{faultsTo}
+use Rattle.fault_merge.specs.Work.{faultsTo}
 use Rattle.rule_machining.specs.All.{MachiningPut}
 use Rattle.rule_printing.specs.Rules.{trapsHollows}
 use Rattle.report.specs.declared.report.Written.{Written}
 use Rattle.report.specs.declared.report.Written.the-variants.{Bytes, TooLong}
 use Rattle.report.specs.Text.{reportText}
-use Rattle.report_faces.specs.Ready.{Told, Kept}
+use Rattle.report_faces.specs.Work.{Told, Kept}
 use Rattle.dfm_core.specs.declared.answer.Answer.{Answer}
 use Rattle.dfm_core.specs.declared.answer.Answer.the-variants.{Accepted, Refused}
 use Rattle.dfm_core.specs.Faults.{faultsOf, summaryOf, reportOf}

@@ -9,7 +9,7 @@ use lib.ListN.{getD}
 use Rattle.list_laws.proofs.Below.{sum-none, sum-more}
 use Rattle.list_laws.proofs.Count.{count-le}
 use Rattle.fault_lines.proofs.SumLaws.{count-sum}
-use Rattle.fault_merge.specs.Merged.{leaders}
+use Rattle.fault_merge.specs.Work.{leaders}
 
 pub leaders-none : (work : List ℕ) → 0 ≡ leaders work 0
 unfolding leaders

@@ -23,8 +23,9 @@ use Rattle.fault_lines.proofs.SumLaws.{sum-same, count-sum}
 use Rattle.fault_lines.proofs.Found.{line-count}
 use Rattle.fault_lines.proofs.AlikeLaws.{at-before, at-last, first-is, total-sum, length-sum}
 use Rattle.fault_text.specs.Meaning.{faultOf, GoodRow}
-use Rattle.fault_merge.specs.Rows.{headingAt, faultsTo, Rows}
-use Rattle.fault_merge.specs.Merged.{shares, leadIn, countIn, membersIn, Merged, leaders}
+use Rattle.fault_merge.specs.Rows.{headingAt, Rows}
+use Rattle.fault_merge.specs.Work.{faultsTo, leaders}
+use Rattle.fault_merge.specs.Merged.{shares, leadIn, countIn, membersIn, Merged}
 use Rattle.fault_merge.proofs.LeadLaws.{lead-le, lead-shares, lead-least}
 
 module _ (t : Part) (cells : List ℕ) (numbers : List Float) where

@@ -3,7 +3,6 @@ use mathlib.Core.Path.{_≡_}
 use mathlib.Core.Bool.{Bool, cond}
 use mathlib.Core.List.{List}
 use Prim.Native.Nat.{ℕ, _+_, _*_, _<_}
-use lib.Dec.{eqb}
 use lib.ListN.{getD}
 use lib.Ieee.{Float}
 use Rattle.list_laws.specs.Below.{sumBelow, lowestBelow}
@@ -38,7 +37,3 @@ module _ (t : Part) (cells : List ℕ) (numbers : List Float) where
     pub leads : (j : ℕ) → j < n → getD work (4 * j + 1) 0 ≡ leadIn j
     pub totals : (j : ℕ) → j < n → leadIn j ≡ j → getD work (4 * j + 2) 0 ≡ countIn n j
     pub members : (j : ℕ) → j < n → leadIn j ≡ j → getD work (4 * j + 3) 0 ≡ membersIn n j
-
--- how many of the faults below n begin a line
-unfoldable pub leaders : List ℕ → ℕ → ℕ
-leaders work n = sumBelow n (λ i. cond (eqb (getD work (4 * i + 1) 0) i) 1 0)

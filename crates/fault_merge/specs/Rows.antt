@@ -1,12 +1,12 @@
 -- The faults that fault rows hold. Definitions only.
-use mathlib.Core.List.{List, [], _∷_, _++_}
-use Prim.Native.Nat.{ℕ, zero, suc, _*_, _≤_, _<_}
+use mathlib.Core.List.{List}
+use Prim.Native.Nat.{ℕ, _*_, _≤_, _<_}
 use lib.ListN.{length}
 use lib.Ieee.{Float}
 use Rattle.file_part.specs.Part.{Part, partOf}
 use Rattle.solid_faces.specs.Faces.{Checked}
 use Rattle.fault_row.specs.declared.row.FaultRow.{FaultRow}
-use Rattle.fault_row.specs.Fault.{Heading, Fault}
+use Rattle.fault_row.specs.Fault.{Heading}
 use Rattle.fault_row.specs.Row.{rowAt}
 use Rattle.fault_text.specs.Meaning.{faultOf, GoodRow}
 
@@ -17,11 +17,6 @@ headingOf t row = faultOf t row .heading
 -- of row i
 unfoldable pub headingAt : Part → List ℕ → List Float → ℕ → Heading
 headingAt t cells numbers i = headingOf t (rowAt cells numbers i)
-
--- the faults of the first n rows: row k is fault k
-unfoldable pub faultsTo : Part → List ℕ → List Float → ℕ → List Fault
-faultsTo t cells numbers zero = []
-faultsTo t cells numbers (suc n) = faultsTo t cells numbers n ++ (faultOf t (rowAt cells numbers n) ∷ [])
 
 -- n fault rows of an accepted file's part
 pub record Rows (s cells : List ℕ) (numbers : List Float) (n : ℕ) : Type 0 where

@@ -1,11 +1,31 @@
--- How the cells of a fault are made. A reader may pass over it.
+-- What private functions leave on the way; a reader may pass over it. Definitions only.
+use mathlib.Core.List.{List, [], _∷_, _++_}
+use mathlib.Core.Bool.{cond}
 use mathlib.Core.Path.{_≡_}
-use mathlib.Core.List.{List}
 use mathlib.Core.Logic.{_⊎_}
-use Prim.Native.Nat.{ℕ, _+_, _*_, _≤_, _<_}
-use lib.ListN.{length, getD}
+use Prim.Native.Nat.{ℕ, zero, suc, _+_, _*_, _≤_, _<_}
+use lib.Ieee.{Float}
+use lib.Dec.{eqb}
+use lib.ListN.{getD, length}
+use Rattle.list_laws.specs.Below.{sumBelow}
+use Rattle.file_part.specs.Part.{Part}
 use Rattle.fault_row.specs.declared.row.FaultRow.{FaultRow}
+use Rattle.fault_row.specs.Fault.{Fault}
+use Rattle.fault_row.specs.Row.{rowAt}
+use Rattle.fault_text.specs.Meaning.{faultOf}
 
+-- ---- beside Rows.antt
+-- the faults of the first n rows: row k is fault k
+unfoldable pub faultsTo : Part → List ℕ → List Float → ℕ → List Fault
+faultsTo t cells numbers zero = []
+faultsTo t cells numbers (suc n) = faultsTo t cells numbers n ++ (faultOf t (rowAt cells numbers n) ∷ [])
+
+-- ---- beside Merged.antt
+-- how many of the faults below n begin a line
+unfoldable pub leaders : List ℕ → ℕ → ℕ
+leaders work n = sumBelow n (λ i. cond (eqb (getD work (4 * i + 1) 0) i) 1 0)
+
+-- ---- how the cells of a fault are made
 pub record Opened (old : List ℕ) (i hash lead : ℕ) (new : List ℕ) : Type 0 where
   pub hash-is : getD new (4 * i) 0 ≡ hash
   pub lead-is : getD new (4 * i + 1) 0 ≡ lead

@@ -25,14 +25,6 @@ processOf n = cond (eqb n 0) CncMachining (cond (eqb n 1) SheetMetal (cond (eqb 
 unfoldable pub classOf : ℕ → MaterialClass
 classOf n = cond (eqb n 0) Metal Plastic
 
--- the 3D printing processes, as dfm.rs's `is_printing` has them
-unfoldable pub isPrinting : Process → Bool
-isPrinting CncMachining = false
-isPrinting SheetMetal = false
-isPrinting Fdm = true
-isPrinting Sla = true
-isPrinting Sls = true
-
 -- "flags (1 material, 2 nozzle, 4 overhang, 8 bend ratio, which needs material)"
 unfoldable pub hasFlag : ℕ → ℕ → Bool
 hasFlag flags flag = eqb (flags / flag % 2) 1

@@ -1,2 +1,3 @@
 -- The job of a part file.
 pub mod Job
+pub mod Work

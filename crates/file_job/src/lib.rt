@@ -2,7 +2,8 @@
 ghost use mathlib.Core.Path.{_≡_};
 ghost use Prim.Native.Nat.{_+_, _≤_};
 ghost use lib.ListN.{length};
-ghost use Rattle.file_job.specs.Job.{processOf, classOf, isPrinting, hasFlag, defaultsOf, settingsAt, materialAt, jobAt};
+ghost use Rattle.file_job.specs.Job.{processOf, classOf, hasFlag, defaultsOf, settingsAt, materialAt, jobAt};
+ghost use Rattle.file_job.specs.Work.{isPrinting};
 use file_field::read::f64_at;
 use file_field::read::u32_at;
 use file_field::read::vec_at;

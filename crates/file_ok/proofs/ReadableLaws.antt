@@ -22,7 +22,8 @@ use Rattle.file_ok.specs.declared.verdict.Verdict.the-variants.{Accepted
 use Rattle.file_part.specs.Layout.{edition, vertexCount, polygonCount, back, entryAt, sizeOf}
 use Rattle.file_part.specs.Part.{surfaceAt, firstAt, countAt}
 use Rattle.file_ok.specs.Rules.{vertexGood, verticesGood, runStart, runGood, entryGood, polygonGood, polygonsGood}
-use Rattle.file_ok.specs.Verdict.{number, tooLarge, fitted, contentVerdict, verdictOf, Readable}
+use Rattle.file_ok.specs.Verdict.{number, tooLarge, fitted, contentVerdict, verdictOf}
+use Rattle.file_ok.specs.Work.{Readable}
 use Rattle.file_ok.specs.Readable.{Run, SurfaceWithin}
 use Rattle.file_ok.proofs.PolygonLaws.{entry-run, entry-surface, run-inside}
 use Rattle.file_ok.proofs.GoodLaws.{surface-within}

@@ -2,3 +2,4 @@
 pub mod Rules
 pub mod Verdict
 pub mod Readable
+pub mod Work

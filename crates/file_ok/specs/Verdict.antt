@@ -1,5 +1,4 @@
 -- "When a part is turned back": refusals 1 to 7, in their order. Definitions only.
-use mathlib.Core.Path.{_≡_}
 use mathlib.Core.Bool.{Bool, not, _&&_, _||_, cond}
 use mathlib.Core.List.{List}
 use Prim.Native.Nat.{ℕ, _+_, _*_}
@@ -47,10 +46,6 @@ verdictOf s =
     (cond (tooLarge (vertexCount s) (polygonCount s)) TooLarge
     (cond (not (fitted s (vertexCount s) (polygonCount s))) WrongLength
     (contentVerdict s (vertexCount s) (polygonCount s)))))
-
--- a file that none of 1 to 7 turns back
-unfoldable pub Readable : List ℕ → Type 0
-Readable s = verdictOf s ≡ Accepted
 
 -- ---- 10 comes after 1 to 9: an earlier refusal, or else 10 where too little is lent; 0 for none
 unfoldable pub orTen : ℕ → Bool → ℕ

@@ -15,10 +15,12 @@ use borrow.Author.Tests.{eq-eqb, ne-eqb, eqb-true, eqb-false}
 use Rattle.num_float.proofs.Tests.{lt-or-ge}
 use Rattle.list_laws.specs.Below.{lowestBelow}
 use Rattle.list_laws.proofs.Count.{lowest-is, lowest-le, lowest-passes, lowest-least}
-use Rattle.list_sort.specs.Sorted.{Numbered, SortedBy, inOrder}
+use Rattle.list_sort.specs.Sorted.{SortedBy, inOrder}
+use Rattle.list_sort.specs.Work.{Numbered}
 use Rattle.list_sort.proofs.Counts.{each-first}
 use Rattle.list_sort.proofs.InOrder.{sorted-is, in-order-same}
-use Rattle.list_median.specs.Median.{nought, half, weightTo, reachedAt, halfway, medianOf, Pairs, Median}
+use Rattle.list_median.specs.Median.{nought, half, weightTo, reachedAt, halfway, medianOf, Median}
+use Rattle.list_median.specs.Work.{Pairs}
 
 -- ---- the weights, one more
 pub weight-none : (weights : List Float) (xs : List ℕ) → nought ≡ weightTo weights xs 0

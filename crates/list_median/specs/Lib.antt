@@ -1,2 +1,3 @@
 -- The value at half the total weight.
 pub mod Median
+pub mod Work

@@ -3,12 +3,12 @@
 use mathlib.Core.Path.{_≡_}
 use mathlib.Core.Bool.{cond}
 use mathlib.Core.List.{List}
-use Prim.Native.Nat.{ℕ, zero, suc, _-_, _*_, _≤_, min}
+use Prim.Native.Nat.{ℕ, zero, suc, _-_, min}
 use lib.Dec.{eqb}
 use lib.ListN.{length, getD, take}
 use lib.Ieee.{Float, binary64, add, mul, le, nan, ofBits}
 use Rattle.list_laws.specs.Below.{lowestBelow}
-use Rattle.list_sort.specs.Sorted.{Numbered, NoNan, SortedBy, inOrder}
+use Rattle.list_sort.specs.Sorted.{SortedBy, inOrder}
 
 -- the f64 0.0 and 0.5
 abbrev pub nought : Float
@@ -35,13 +35,6 @@ halfway values weights xs n =
 -- the pairs go by rising value; where values are equal, by their numbers. The total is over the pairs in this order
 unfoldable pub medianOf : List Float → List Float → List ℕ → Float
 medianOf values weights xs = halfway values weights (inOrder values xs) (length xs)
-
--- the first n cells are numbers of pairs, with room for the sort after them, and none has a NaN for a value
-pub record Pairs (values weights : List Float) (mem : List ℕ) (n : ℕ) : Type 0 where
-  pub room : 2 * n ≤ length mem
-  pub valued : Numbered values mem 0 n
-  pub weighed : Numbered weights mem 0 n
-  pub plain : NoNan values mem n
 
 -- the answer r: the first n cells are sorted by value, and what comes 2n cells after the start is as it was
 pub record Median (values weights : List Float) (n : ℕ) (before after : List ℕ) (r : Float) : Type 0 where

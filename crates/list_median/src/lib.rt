@@ -3,8 +3,9 @@ ghost use mathlib.Core.Path.{_≡_};
 ghost use Prim.Native.Nat.{_≤_, _<_, min};
 ghost use lib.ListN.{length, getD};
 ghost use lib.Ieee.{nan};
-ghost use Rattle.list_sort.specs.Sorted.{Numbered};
-ghost use Rattle.list_median.specs.Median.{weightTo, reachedAt, Pairs, Median};
+ghost use Rattle.list_sort.specs.Work.{Numbered};
+ghost use Rattle.list_median.specs.Median.{weightTo, reachedAt, Median};
+ghost use Rattle.list_median.specs.Work.{Pairs};
 use list_sort::sort;
 
 fn wide(x: u32) -> usize

@@ -35,7 +35,8 @@ use Rattle.wall_ray.specs.Nearest.{hitOf}
 use Rattle.wall_samples.specs.Samples.{e-6, polygonCentroid, inward, rayOf, facesBack, readingsOf}
 use Rattle.wall_samples.specs.Stored.{reading}
 use Rattle.wall_samples.proofs.ReadingLaws.{readings-each}
-use Rattle.measure_sizes.specs.Reading.{ReadingBounds, ReadingWithin}
+use Rattle.measure_sizes.specs.Reading.{ReadingBounds}
+use Rattle.measure_sizes.specs.Work.{ReadingWithin}
 use Rattle.wall_ray.proofs.NearestLaws.{hit-struck}
 
 -- ---- the constants

@@ -27,14 +27,15 @@ use Rattle.file_part.specs.declared.read.SurfaceKind.the-variants.{Plane, Cylin
 use Rattle.file_part.specs.Layout.{vertexCount, polygonCount, entryAt}
 use Rattle.file_part.specs.Part.{partOf}
 use Rattle.file_ok.specs.Readable.{SurfaceWithin}
-use Rattle.file_ok.specs.Verdict.{Readable}
+use Rattle.file_ok.specs.Work.{Readable}
 use Rattle.file_part.proofs.PartLaws.{part-polygons, part-count, part-surface}
 use Rattle.file_ok.proofs.ReadableLaws.{readable-run, readable-surface}
 use Rattle.solid_polygon.specs.Polygon.{half}
 use Rattle.solid_faces.specs.Faces.{facesOf, firstPolygon, polygonCorner, Checked}
 use Rattle.solid_faces.proofs.BodyLaws.{checked-readable}
 use Rattle.solid_faces.proofs.FaceLaws.{first-polygon-begins}
-use Rattle.solid_sizes.specs.Sizes.{Near, VecFits, SurfaceFits}
+use Rattle.solid_sizes.specs.Sizes.{VecFits}
+use Rattle.solid_sizes.specs.Work.{Near, SurfaceFits}
 use Rattle.solid_sizes.proofs.Vectors.{plus-within, minus-within, times-within, dot-within}
 use Rattle.solid_sizes.proofs.Areas.{readable-near}
 use Rattle.solid_sizes.proofs.Directions.{surface-fits, normalized-within}
@@ -44,7 +45,7 @@ use Rattle.round_frame.specs.declared.extent.Extent.{Extent}
 use Rattle.round_frame.specs.Frame.{frameOf, heightOf, measureOf}
 use Rattle.round_frame.specs.Polygons.{extentTo}
 use Rattle.round_all.specs.Round.{faceSurface, isCylinder, originOf, dirOf, radiusOf, isRound, faceFrame, faceMeasure, roundOf, roundsTo, roundsOf}
-use Rattle.measure_sizes.specs.Each.{Each}
+use Rattle.measure_sizes.specs.Work.{Each}
 use Rattle.measure_sizes.specs.Round.{diameterOf, ratioOf, RoundBounds}
 use Rattle.measure_sizes.proofs.EachLaws.{each-append}
 use Rattle.measure_sizes.proofs.Extents.{Spread, extent-spread}

@@ -17,7 +17,7 @@ use Rattle.math.specs.Size.{VecWithin}
 use Rattle.file_field.specs.Field.{vecAt}
 use Rattle.file_part.specs.Layout.{vertexCount, polygonCount, entryAt}
 use Rattle.file_part.specs.Part.{partOf, polygonAt, firstAt, countAt}
-use Rattle.file_ok.specs.Verdict.{Readable}
+use Rattle.file_ok.specs.Work.{Readable}
 use Rattle.file_ok.proofs.ReadableLaws.{readable-counts, readable-run, readable-vertex, readable-index}
 use Rattle.solid_bodies.specs.Body.{bodyOf}
 use Rattle.solid_volumes.specs.Volume.{six, pyramid, fan, fanFrom, volumeTo, volumeOf}

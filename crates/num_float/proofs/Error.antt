@@ -10,7 +10,8 @@ use lib.Ieee.{Float, nan, inf, fin, binary64, up, down, unlike, fits, round, sum
 use lib.Ieee.Fits.{down-pos}
 use lib.Ieee.Scale.{finite}
 use lib.Ieee.Positive.{num, den}
-use Rattle.num_float.specs.Units.{units, minus-sign, above, below, gap, Close}
+use Rattle.num_float.specs.Units.{units, minus-sign}
+use Rattle.num_float.specs.Work.{above, below, gap, Close}
 use Rattle.num_float.proofs.Rounding.{grid-error}
 use Rattle.num_float.proofs.Units.{units-are, left-units, right-units, round-sign, round-units}
 

@@ -12,7 +12,7 @@ use lib.Ieee.{Float, nan, inf, fin, up, down, lt, eq, le, isNan, ofBits}
 use lib.Ieee.Fits.{up-pos, down-pos}
 use lib.Ieee.Scale.{finite}
 use lib.Ieee.Positive.{num, den}
-use Rattle.num_float.specs.Rank.{place, position}
+use Rattle.num_float.specs.Work.{place, position}
 use Rattle.num_float.specs.Sign.{plus-zero, NonNeg}
 use Rattle.num_float.specs.Units.{minus-sign}
 use Rattle.num_float.proofs.Tests.{same-test}

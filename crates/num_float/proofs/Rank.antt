@@ -7,7 +7,7 @@ use lib.Dec.{T}
 use lib.Pow.{pow-pos}
 use lib.Ieee.{Float, binary64, fits, isNan}
 use Rattle.num_float.specs.Units.{units}
-use Rattle.num_float.specs.Rank.{rank}
+use Rattle.num_float.specs.Work.{rank}
 use Rattle.num_float.proofs.Line.{Agree, Counted, agree}
 use Rattle.num_float.proofs.Units.{units-are, units-under}
 

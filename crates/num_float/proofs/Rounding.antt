@@ -18,8 +18,9 @@ use lib.Ieee.Order.{round-mono, drop, kept, transfer, le-of-values}
 use lib.Ieee.Scale.{finite, grid, overflow}
 use lib.Ieee.Positive.{num, den, den-pos}
 use Rattle.num_float.specs.Sign.{plus-zero, NonNeg}
-use Rattle.num_float.specs.Units.{minus-sign, gap}
-use Rattle.num_float.specs.Within.{Within, Held}
+use Rattle.num_float.specs.Units.{minus-sign}
+use Rattle.num_float.specs.Work.{gap, Held}
+use Rattle.num_float.specs.Within.{Within}
 use Rattle.num_float.proofs.Tests.{holds, lt-or-ge}
 use Rattle.num_float.proofs.Line.{le→≤}
 use Rattle.num_float.proofs.NonNegative.{zero-finite, plus-nonneg, as-fractions}

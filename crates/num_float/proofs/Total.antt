@@ -8,7 +8,7 @@ use lib.ListN.{length}
 use lib.Ieee.{Float, binary64, add}
 use Rattle.num_float.specs.Sign.{NonNeg}
 use Rattle.num_float.specs.Within.{Within}
-use Rattle.num_float.specs.Total.{total, AllWithin, AllNonNeg}
+use Rattle.num_float.specs.Work.{total, AllWithin, AllNonNeg}
 use Rattle.num_float.proofs.Within.{held-pow, add-within}
 use Rattle.num_float.proofs.Sign.{add-nonneg}
 

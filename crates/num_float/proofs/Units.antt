@@ -14,7 +14,8 @@ use lib.Ieee.Fits.{down-pos, and-l, and-r, round-fits}
 use lib.Ieee.Scale.{finite, grid}
 use lib.Ieee.Positive.{num, den, den-pos, first-pos}
 use Rattle.num_float.specs.Units.{units, minus-sign}
-use Rattle.num_float.specs.Within.{Within, Bounded}
+use Rattle.num_float.specs.Within.{Within}
+use Rattle.num_float.specs.Work.{Bounded}
 use Rattle.num_float.proofs.Tests.{lt-or-ge}
 use Rattle.num_float.proofs.Rounding.{value-sign, value-cross, round-value, finite-under}
 

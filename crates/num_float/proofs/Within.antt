@@ -12,9 +12,10 @@ use lib.Ieee.Fits.{down-pos}
 use lib.Ieee.Back.{round-whole}
 use lib.Ieee.Scale.{finite}
 use lib.Ieee.Positive.{num, den, den-pos, first-pos}
-use Rattle.num_float.specs.Order.{lesser, greater}
+use Rattle.num_float.specs.Order.{lesser}
+use Rattle.num_float.specs.Work.{greater, Held}
 use Rattle.num_float.specs.Sign.{NonNeg}
-use Rattle.num_float.specs.Within.{Within, Beyond, Held}
+use Rattle.num_float.specs.Within.{Within, Beyond}
 use Rattle.num_float.proofs.Tests.{cond-has}
 use Rattle.num_float.proofs.Line.{le→≤}
 use Rattle.num_float.proofs.NonNegative.{nonneg-above, as-fractions, plus-size-le, minus-size-le, size-lt}

@@ -2,6 +2,5 @@
 pub mod Order
 pub mod Sign
 pub mod Within
-pub mod Total
 pub mod Units
-pub mod Rank
+pub mod Work

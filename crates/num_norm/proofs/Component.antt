@@ -13,7 +13,7 @@ use Rattle.num_root.specs.Root.{root}
 use Rattle.num_root.proofs.Signs.{root-fits}
 use Rattle.num_float.specs.Sign.{plus-zero}
 use Rattle.num_float.specs.Units.{units, minus-sign}
-use Rattle.num_float.specs.Within.{Bounded, Held}
+use Rattle.num_float.specs.Work.{Bounded, Held}
 use Rattle.num_float.proofs.Line.{le→≤}
 use Rattle.num_float.proofs.Order.{lt-le-trans, le-trans, not-lt-le, le-numbers}
 use Rattle.num_float.proofs.NonNegative.{nonneg-plus, nonneg-above, plus-nonneg, finite-number, above-num, as-fractions}

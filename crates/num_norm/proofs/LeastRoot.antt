@@ -8,14 +8,16 @@ use lib.Dec.{T}
 use lib.Ieee.{Float, nan, inf, fin, binary64, fits, lt, eq, le, isNan, ofBits}
 use Rattle.num_root.specs.Root.{root}
 use Rattle.num_root.proofs.Signs.{root-fits}
-use Rattle.num_float.specs.Order.{lesser, greater}
+use Rattle.num_float.specs.Order.{lesser}
+use Rattle.num_float.specs.Work.{greater}
 use Rattle.num_float.specs.Sign.{plus-zero, NonNeg}
 use Rattle.num_float.proofs.Tests.{holds, contrary, cond-has}
 use Rattle.num_float.proofs.Line.{le→≤}
 use Rattle.num_float.proofs.Order.{lt-le, le-not-lt, not-lt-le, lt-le-trans, le-lt-trans, le-numbers}
 use Rattle.num_float.proofs.NonNegative.{nonneg-plus, nonneg-above, not-negative, as-fractions}
 use Rattle.num_float.proofs.Units.{units-le, units-unique}
-use Rattle.num_norm.specs.Least.{least, greatest, roots}
+use Rattle.num_norm.specs.Least.{least, roots}
+use Rattle.num_norm.specs.Work.{greatest}
 use Rattle.num_norm.proofs.RootOrder.{root-nonneg, root-mono}
 use Rattle.num_norm.proofs.RootUnits.{smallest-root, smallest-root-le}
 

@@ -11,13 +11,15 @@ use lib.Ieee.{Float, inf, binary64, fits, add, mul}
 use lib.Ieee.Scale.{finite}
 use Rattle.num_root.specs.Root.{root}
 use Rattle.num_root.proofs.Signs.{root-fits}
-use Rattle.num_float.specs.Order.{lesser, greater}
+use Rattle.num_float.specs.Order.{lesser}
+use Rattle.num_float.specs.Work.{greater, Held}
 use Rattle.num_float.specs.Sign.{plus-zero, NonNeg}
-use Rattle.num_float.specs.Within.{Within, Held}
+use Rattle.num_float.specs.Within.{Within}
 use Rattle.num_float.proofs.NonNegative.{plus-nonneg}
 use Rattle.num_float.proofs.Within.{held-pow, add-within, mul-within, wider}
 use Rattle.num_norm.specs.Length.{squared, length}
-use Rattle.num_norm.specs.Least.{least, greatest, roots, Vec, squares, lengths}
+use Rattle.num_norm.specs.Least.{least, roots, Vec, lengths}
+use Rattle.num_norm.specs.Work.{greatest, squares}
 use Rattle.num_norm.proofs.RootOrder.{root-nonneg, root-within}
 use Rattle.num_norm.proofs.RootUnits.{root-finite}
 use Rattle.num_norm.proofs.LeastRoot.{Operand, AllOperands, lesser-root, greater-root, least-root-infinity, greatest-root-zero}

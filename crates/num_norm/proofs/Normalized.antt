@@ -10,8 +10,8 @@ use lib.Dec.{T, lit≤}
 use lib.Ieee.{Float, binary64, fits, mul, div, lt, eq, le, ofBits}
 use lib.Ieee.Scale.{finite}
 use Rattle.num_float.specs.Sign.{plus-zero}
-use Rattle.num_float.specs.Units.{units, gap}
-use Rattle.num_float.specs.Within.{Bounded}
+use Rattle.num_float.specs.Units.{units}
+use Rattle.num_float.specs.Work.{gap, Bounded}
 use Rattle.num_float.proofs.Tests.{contrary, lt-or-ge}
 use Rattle.num_float.proofs.Order.{lt-le-trans, le-trans, le-not-lt, not-lt-le, le-numbers}
 use Rattle.num_float.proofs.NonNegative.{plus-nonneg, finite-number, num-above}

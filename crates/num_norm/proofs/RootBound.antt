@@ -17,7 +17,8 @@ use lib.Ieee.Positive.{num, den, den-pos}
 use Rattle.num_root.specs.Root.{root}
 use Rattle.num_root.specs.Nearest.{Holds}
 use Rattle.num_root.proofs.Signs.{root-fits}
-use Rattle.num_float.specs.Units.{units, minus-sign, gap}
+use Rattle.num_float.specs.Units.{units, minus-sign}
+use Rattle.num_float.specs.Work.{gap}
 use Rattle.num_float.proofs.Tests.{lt-or-ge}
 use Rattle.num_float.proofs.Rounding.{value-cross, finite-lt}
 use Rattle.num_float.proofs.Units.{units-are, units-multiple}

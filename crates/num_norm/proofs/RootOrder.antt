@@ -16,7 +16,8 @@ use lib.Ieee.Nearest.{div-mono}
 use Rattle.num_root.specs.Root.{twiceRoot, rootOf, root, wholeRoot}
 use Rattle.num_root.proofs.WholeRoot.{IsRoot, whole-root, square-lt}
 use Rattle.num_float.specs.Sign.{NonNeg}
-use Rattle.num_float.specs.Within.{Within, Held}
+use Rattle.num_float.specs.Within.{Within}
+use Rattle.num_float.specs.Work.{Held}
 use Rattle.num_float.proofs.Tests.{holds}
 use Rattle.num_float.proofs.Line.{le→≤}
 use Rattle.num_float.proofs.NonNegative.{nonneg-plus, nonneg-zero, nonneg-above, minus-suc, zero-least, infinity-greatest, as-fractions}

@@ -1,19 +1,14 @@
--- The least and the greatest of some floats, by a running minimum and maximum; the roots of some floats; the lengths of some vectors. Definitions only.
+-- The least of some floats, by a running minimum; the roots of some floats; the lengths of some vectors. Definitions only.
 use mathlib.Core.List.{List, [], _∷_}
 use lib.Ieee.{Float}
 use Rattle.num_root.specs.Root.{root}
-use Rattle.num_float.specs.Order.{lesser, greater}
-use Rattle.num_norm.specs.Length.{squared, length}
+use Rattle.num_float.specs.Order.{lesser}
+use Rattle.num_norm.specs.Length.{length}
 
 -- a, and in turn each element that is strictly less
 unfoldable pub least : Float → List Float → Float
 least a [] = a
 least a (x ∷ xs) = least (lesser a x) xs
-
--- a, and in turn each element that is strictly greater
-unfoldable pub greatest : Float → List Float → Float
-greatest a [] = a
-greatest a (x ∷ xs) = greatest (greater a x) xs
 
 -- the root of each
 unfoldable pub roots : List Float → List Float
@@ -25,11 +20,6 @@ pub record Vec : Type 0 where
   pub x : Float
   pub y : Float
   pub z : Float
-
--- the squared length of each
-unfoldable pub squares : List Vec → List Float
-squares [] = []
-squares (v ∷ vs) = squared (v .x) (v .y) (v .z) ∷ squares vs
 
 -- the length of each
 unfoldable pub lengths : List Vec → List Float

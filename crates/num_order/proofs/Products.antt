@@ -11,8 +11,7 @@ use lib.Ieee.{Float, nan, inf, fin, binary64, up, down, unlike, round, mul, lt, 
 use lib.Ieee.Fits.{down-pos, up-pos}
 use Rattle.num_float.specs.Units.{minus-sign}
 use Rattle.num_float.proofs.Order.{le-numbers, le-refl-number}
-use Rattle.num_order.specs.Fraction.{over, under, AtMost}
-use Rattle.num_order.specs.Factor.{sided, NonZero, infinite, number}
+use Rattle.num_order.specs.Work.{over, under, AtMost, sided, NonZero, infinite, number}
 use Rattle.num_order.proofs.Signed.{clash, round-le, le-at-most}
 use Rattle.num_order.proofs.Sums.{least, most, round-number}
 

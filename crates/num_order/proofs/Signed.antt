@@ -13,7 +13,7 @@ use lib.Ieee.Bits.{is-true}
 use lib.Ieee.Order.{round-mono}
 use Rattle.num_float.proofs.Tests.{contrary, and-left, and-right, lt-or-ge}
 use Rattle.num_float.proofs.Order.{le-trans}
-use Rattle.num_order.specs.Fraction.{over, under, AtMost}
+use Rattle.num_order.specs.Work.{over, under, AtMost}
 
 -- ---- by cases
 pub by-lt : (a b : ℕ) {A : Type 0} → (a < b → A) → (b ≤ a → A) → A

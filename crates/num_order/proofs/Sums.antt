@@ -9,7 +9,7 @@ use lib.IntN.{ℤ, pos}
 use lib.Ieee.{Float, nan, inf, fin, binary64, up, down, round, sum, add, sub, lt, eq, le, neg, isNan}
 use lib.Ieee.Fits.{down-pos}
 use Rattle.num_float.proofs.Order.{le-numbers, le-refl-number}
-use Rattle.num_order.specs.Fraction.{over, under, AtMost}
+use Rattle.num_order.specs.Work.{over, under, AtMost}
 use Rattle.num_order.proofs.Signed.{by-lt, clash, round-le, sum-is, le-at-most}
 
 -- ---- adding a number

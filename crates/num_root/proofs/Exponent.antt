@@ -7,7 +7,7 @@ use native.Mathlib.Omega.{arith}
 use lib.Bits.{bitAnd, and-mask}
 use lib.Pow.{pow-add, shl-exact}
 use lib.Ieee.{binary64, round, toBits}
-use Rattle.num_root.specs.Whole.{Near}
+use Rattle.num_root.specs.Work.{Near}
 use Rattle.num_root.specs.Root.{twiceRoot}
 use Rattle.num_root.proofs.Rounded.{near-low, near-high, rounded, pattern-of-value}
 

@@ -11,7 +11,7 @@ use lib.Ieee.{Float, nan, inf, fin, binary64, size, fits, round}
 use lib.Ieee.Exact.{HasValue}
 use lib.Bits.{bitAnd}
 use Rattle.num_root.proofs.Signs.{root-fits}
-use Rattle.num_root.specs.Whole.{Near}
+use Rattle.num_root.specs.Work.{Near}
 use Rattle.num_root.specs.Root.{twiceRoot, root, wholeRoot}
 use Rattle.num_root.specs.Nearest.{Holds, Nearest, SquareRoot}
 use Rattle.num_float.specs.Units.{units}

@@ -14,7 +14,7 @@ use lib.Ieee.Exact.{HasValue}
 use lib.Ieee.Nearest.{closest, closest-same}
 use lib.Ieee.Order.{drop, kept}
 use lib.Ieee.Scale.{grid, overflow, round-val}
-use Rattle.num_root.specs.Whole.{Near}
+use Rattle.num_root.specs.Work.{Near}
 use Rattle.num_root.specs.Root.{twiceRoot, rootOf, root}
 use Rattle.num_float.proofs.Tests.{lt-or-ge}
 use Rattle.num_root.proofs.WholeRoot.{IsRoot, square-lt, twiceRoot-round, twiceRoot-half}

@@ -9,7 +9,7 @@ use mir.Val.{boolByte}
 use native.Mathlib.Omega.{arith}
 use lib.Bits.{bitAnd, and-mask}
 use Rattle.num_float.proofs.Tests.{lt-or-ge}
-use Rattle.num_root.specs.Whole.{Near, OutOfRange, Excess}
+use Rattle.num_root.specs.Work.{Near, OutOfRange, Excess}
 
 -- a product of two numbers below 2 ^ 27
 pub under54 : (a b : ℕ) → a < 2 ^ 27 → b < 2 ^ 27 → a * b ≤ (2 ^ 27 - 1) * (2 ^ 27 - 1)

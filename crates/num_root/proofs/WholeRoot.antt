@@ -10,7 +10,7 @@ use lib.Arith.{lt-of-le-ne}
 use lib.Ieee.{size, nearest}
 use lib.Ieee.Digits.{size-lt}
 use lib.Ieee.Nearest.{closest}
-use Rattle.num_root.specs.Whole.{Near}
+use Rattle.num_root.specs.Work.{Near}
 use Rattle.num_root.specs.Root.{nextDigit, wholeRoot, twiceRoot}
 use Rattle.num_float.proofs.Tests.{lt-or-ge}
 

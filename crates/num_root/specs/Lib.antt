@@ -1,4 +1,4 @@
--- What the square root means: the definition that callers cite (Root), the statement to believe (Nearest), and the steps between (Whole).
+-- What the square root means: the definition that callers cite (Root), the statement to believe (Nearest), and the steps between (Work).
 pub mod Root
 pub mod Nearest
-pub mod Whole
+pub mod Work

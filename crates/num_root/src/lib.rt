@@ -6,7 +6,7 @@ ghost use mathlib.Core.Path.{_≡_};
 ghost use Prim.Native.Nat.{_+_, _*_, _^_, _≤_, _<_};
 ghost use mathlib.Core.Bool.{false};
 ghost use lib.Ieee.{binary64, ofBits, toBits, round};
-ghost use Rattle.num_root.specs.Whole.{Near, OutOfRange, Excess, DigitsOf};
+ghost use Rattle.num_root.specs.Work.{Near, OutOfRange, Excess, DigitsOf};
 ghost use Rattle.num_root.specs.Root.{root, twiceRoot};
 
 // The leading digit of a normal number, which its pattern leaves out, and the digits after it.

@@ -18,7 +18,8 @@ use lib.Ieee.Scale.{finite}
 use borrow.Author.Tests.{le-leb, lt-leb}
 use Rattle.num_text.specs.declared.decimal.Answer.{Answer}
 use Rattle.num_text.specs.declared.decimal.Answer.the-variants.{Written, Refused}
-use Rattle.num_text.specs.Decimal.{scaled, pointed, text, zero, limit, accepted, taken, refusal, Writes, decimalText, Divided}
+use Rattle.num_text.specs.Decimal.{scaled, pointed, text, zero, limit, accepted, taken, refusal, Writes, decimalText}
+use Rattle.num_text.specs.Work.{Divided}
 use Rattle.num_text.specs.Number.{digits, numeral, afterPoint, width}
 use Rattle.num_text.specs.Put.{Put}
 use Rattle.num_text.proofs.NumberLaws.{length-digits, length-numeral, width-le}

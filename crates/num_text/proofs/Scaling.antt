@@ -9,7 +9,8 @@ use lib.Ieee.{Float}
 use lib.Ieee.Nearest.{closest, closest-same}
 use lib.Ieee.Positive.{num, den, den-pos}
 use Rattle.num_real.specs.Bits.{Decomposed}
-use Rattle.num_text.specs.Decimal.{scaled, Divided}
+use Rattle.num_text.specs.Decimal.{scaled}
+use Rattle.num_text.specs.Work.{Divided}
 use Rattle.num_text.proofs.Rounding.{closest-whole, closest-zero}
 
 -- ---- n / c is d * 2 ^ u / 2 ^ l

@@ -62,9 +62,3 @@ pub record Writes (x : Float) (p : ℕ) (before after : List ℕ) (r : Answer) :
 unfoldable pub decimalText : Float → ℕ → List ℕ
 unfolding accepted text
 decimalText x p = cond (accepted x p) (text x p) []
-
--- ---- between the parts of the writer
--- n divided by d
-pub record Divided (n d quotient rest : ℕ) : Type 0 where
-  pub quotient-is : quotient ≡ n / d
-  pub rest-is : rest ≡ n % d

@@ -2,3 +2,4 @@
 pub mod Decimal
 pub mod Number
 pub mod Put
+pub mod Work

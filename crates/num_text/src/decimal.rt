@@ -5,7 +5,8 @@ ghost use mathlib.Core.List.{_++_};
 ghost use lib.ListN.{length};
 ghost use lib.Ieee.Nearest.{closest};
 ghost use lib.Ieee.Positive.{num, den};
-ghost use Rattle.num_text.specs.Decimal.{scaled, decimalText, Divided, Writes};
+ghost use Rattle.num_text.specs.Decimal.{scaled, decimalText, Writes};
+ghost use Rattle.num_text.specs.Work.{Divided};
 ghost use Rattle.num_text.specs.Number.{digits, numeral, afterPoint};
 ghost use Rattle.num_text.specs.Put.{Put};
 

@@ -21,7 +21,7 @@ use Rattle.wall_samples.specs.Samples.{readingsOf, sampleOf}
 use Rattle.wall_samples.specs.Stored.{reading}
 use Rattle.measure_sizes.specs.Reading.{ReadingBounds}
 use Rattle.measure_sizes.proofs.Readings.{reading-bounds}
-use Rattle.wall_pairs.specs.Kept.{readingOrder, WallsOrdered}
+use Rattle.wall_pairs.specs.Work.{readingOrder, WallsOrdered}
 use Rattle.wall_pairs.proofs.WallLaws.{walls-below}
 use Rattle.wall_pairs.proofs.StepLaws.{cell-is}
 use Rattle.print_walls.specs.declared.Thinnest.{Thinnest}

@@ -17,7 +17,7 @@ use Rattle.wall_samples.specs.Samples.{readingsOf}
 use Rattle.wall_samples.proofs.ReadingLaws.{readings-most}
 use Rattle.measure_sizes.specs.Reading.{ReadingBounds}
 use Rattle.wall_pairs.specs.declared.NextWall.{NextWall}
-use Rattle.wall_pairs.specs.Kept.{readingOrder, WallsOrdered, WallsTo, NextWallIs}
+use Rattle.wall_pairs.specs.Work.{readingOrder, WallsOrdered, WallsTo, NextWallIs}
 use Rattle.wall_pairs.proofs.WallLaws.{walls-start, next-wall, walls-end}
 use Rattle.print_height.specs.Height.{upOf}
 use Rattle.fault_row.specs.Fault.{Fault}

@@ -9,7 +9,7 @@ ghost use Rattle.list_laws.specs.Region.{part};
 ghost use Rattle.file_part.specs.Part.{partOf};
 ghost use Rattle.wall_samples.specs.Samples.{readingsOf, sampleOf};
 ghost use Rattle.wall_samples.specs.Stored.{reading};
-ghost use Rattle.wall_pairs.specs.Kept.{Counted, readingOrder, WallsOrdered};
+ghost use Rattle.wall_pairs.specs.Work.{Counted, readingOrder, WallsOrdered};
 ghost use Rattle.fault_row.specs.Row.{row};
 ghost use Rattle.fault_row.specs.Faults.{FaultsPut};
 ghost use Rattle.fault_text.specs.Meaning.{faultOf, GoodRow};

@@ -20,10 +20,8 @@ use Rattle.scratch.specs.declared.regions.Regions.{Regions}
 use Rattle.scratch.proofs.StandingLaws.{placed-polygons}
 use Rattle.fault_merge.specs.Work.{Front}
 use Rattle.report_faces.specs.declared.marks.Listing.{Listing}
-use Rattle.report_faces.specs.Search.{Passed, Next}
-use Rattle.report_faces.specs.Links.{Low, LinkedAt, Linked, Linking, Links}
-use Rattle.report_faces.specs.Named.{Cells}
-use Rattle.report_faces.specs.Ready.{Kept}
+use Rattle.report_faces.specs.Work.Search.{Passed, Next}
+use Rattle.report_faces.specs.Work.{Low, LinkedAt, Linked, Linking, Links, Cells, Kept}
 use Rattle.report_faces.proofs.SearchLaws.{passed-none, next-end, next-hit}
 
 pub label-low : (labels : List ℕ) → Low labels → (p : ℕ) → p < length labels → getD labels p 0 ≤ p

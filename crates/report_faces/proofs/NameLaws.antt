@@ -26,9 +26,7 @@ use Rattle.fault_text.specs.Meaning.{isOfTwo, isOfOne, facesOfRow, placesOf, Go
 use Rattle.fault_text.specs.Many.{idsTo, faceOfBody, hollowFaces, offFaces, overhangFaces, manyFaces}
 use Rattle.fault_lines.specs.Member.{In, Ordered}
 use Rattle.fault_lines.specs.Ids.{Lower}
-use Rattle.report_faces.specs.Marks.{isSame, isEither}
-use Rattle.report_faces.specs.Named.{isMany, ownFaces, Fits, namesMany, namesIn}
-use Rattle.report_faces.specs.Ready.{Told}
+use Rattle.report_faces.specs.Work.{isSame, isEither, isMany, ownFaces, Fits, namesMany, namesIn, Told}
 use Rattle.report_faces.proofs.SomeLaws.{some-alike}
 use Rattle.report_faces.proofs.CellLaws.{of-two-low, of-one-low}
 use Rattle.report_faces.proofs.IdsLaws.{ids-whole, ids-sound, ids-rising}

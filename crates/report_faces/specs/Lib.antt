@@ -1,7 +1,3 @@
 -- The faces of a line, and their text.
 pub mod Text
-pub mod Search
-pub mod Links
-pub mod Marks
-pub mod Named
-pub mod Ready
+pub mod Work

@@ -1,8 +1,6 @@
 -- Face ids as text: "faces (feature:index, comma between, `-` for none)". Definitions only.
-use mathlib.Core.Bool.{cond}
 use mathlib.Core.List.{List, [], _∷_, _++_}
 use Prim.Native.Nat.{ℕ}
-use lib.Dec.{eqb}
 use Rattle.num_text.specs.Number.{numeral}
 use Rattle.file_part.specs.declared.read.FaceId.{FaceId}
 
@@ -10,10 +8,7 @@ use Rattle.file_part.specs.declared.read.FaceId.{FaceId}
 unfoldable pub idText : FaceId → List ℕ
 idText a = numeral (a .feature) ++ (58 ∷ numeral (a .index))
 
--- an id after k others: 44 is the comma
-unfoldable pub nextText : ℕ → FaceId → List ℕ
-nextText k a = cond (eqb k 0) (idText a) (44 ∷ idText a)
-
+-- ids after others: 44 is the comma
 unfoldable pub moreText : List FaceId → List ℕ
 moreText [] = []
 moreText (a ∷ rest) = 44 ∷ (idText a ++ moreText rest)

@@ -7,7 +7,7 @@ ghost use lib.ListN.{length};
 ghost use Rattle.list_laws.specs.Region.{part};
 ghost use Rattle.scratch.specs.Regions.{Laid};
 ghost use Rattle.fault_merge.specs.Work.{Front};
-ghost use Rattle.report_faces.specs.Links.{Low, Linking, Links};
+ghost use Rattle.report_faces.specs.Work.{Low, Linking, Links};
 use list_cells::cell;
 use scratch::regions::Regions;
 

@@ -17,11 +17,12 @@ use Rattle.file_part.specs.Layout.{vertexCount, polygonCount, entryAt}
 use Rattle.file_part.specs.Part.{partOf, surfaceOf, surfaceAt}
 use Rattle.file_part.proofs.PartLaws.{part-polygons, part-surface}
 use Rattle.file_ok.specs.Readable.{SurfaceWithin}
-use Rattle.file_ok.specs.Verdict.{Readable}
+use Rattle.file_ok.specs.Work.{Readable}
 use Rattle.file_ok.proofs.ReadableLaws.{readable-surface}
 use Rattle.solid_faces.specs.Faces.{facesOf, firstPolygon}
 use Rattle.solid_faces.proofs.FaceLaws.{first-polygon-begins}
-use Rattle.round_frame.specs.Frame.{frameOf, Central}
+use Rattle.round_frame.specs.Frame.{frameOf}
+use Rattle.round_frame.specs.Work.{Central}
 use Rattle.round_frame.proofs.FrameLaws.{central}
 use Rattle.round_all.specs.Round.{faceSurface, isCylinder, originOf, dirOf, isRound, faceFrame}
 

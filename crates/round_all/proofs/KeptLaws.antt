@@ -14,7 +14,8 @@ use Rattle.file_part.specs.Part.{Part}
 use Rattle.round_frame.specs.declared.measure.Measure.{Measure}
 use Rattle.round_all.specs.Round.{isRound, faceMeasure}
 use Rattle.round_all.specs.Kept.{roundKind, KeptKinds, KeptMeasures}
-use Rattle.round_frame.specs.Measure.{measureAt, putMeasure}
+use Rattle.round_frame.specs.Measure.{measureAt}
+use Rattle.round_frame.specs.Work.{putMeasure}
 
 -- ---- the kinds
 pub kinds-none : (t : Part) (l : List ℕ) → KeptKinds t 0 l

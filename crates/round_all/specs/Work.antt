@@ -12,7 +12,7 @@ use Rattle.round_hole.specs.Direction.{goesRound}
 use Rattle.round_frame.specs.declared.frame.Frame.{Frame}
 use Rattle.round_frame.specs.Frame.{measureOf}
 use Rattle.round_frame.specs.Polygons.{extentTo, votesTo, directionsTo}
-use Rattle.round_frame.specs.Measure.{putMeasure}
+use Rattle.round_frame.specs.Work.{putMeasure}
 use Rattle.round_all.specs.Kept.{roundKind, KeptKinds, KeptMeasures}
 
 -- a cylinder about a frame: its kind, and its numbers

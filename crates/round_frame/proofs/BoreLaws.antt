@@ -18,22 +18,22 @@ use Rattle.file_part.specs.Layout.{vertexCount, polygonCount, entryAt}
 use Rattle.file_part.specs.Part.{firstAt, countAt, partOf}
 use Rattle.file_part.proofs.PartLaws.{part-polygons}
 use Rattle.file_ok.specs.Rules.{runStart}
-use Rattle.file_ok.specs.Verdict.{Readable}
+use Rattle.file_ok.specs.Work.{Readable}
 use Rattle.file_ok.proofs.PolygonLaws.{start-more}
 use Rattle.file_ok.proofs.ReadableLaws.{readable-vertex, readable-whole}
-use Rattle.solid_polygon.specs.Polygon.{cornerAt}
+use Rattle.solid_polygon.specs.Work.{cornerAt}
 use Rattle.solid_faces.specs.Faces.{isNew, faceNumber, polygonCorner}
 use Rattle.solid_faces.specs.Kept.{Chain}
 use Rattle.solid_faces.proofs.ChainLaws.{OnFace, on-rises}
 use Rattle.round_hole.specs.declared.direction.Direction.{Direction}
 use Rattle.round_hole.specs.Direction.{e-6, lengthOf, directionOf, offsetDirections}
-use Rattle.round_hole.specs.Cells.{Packable, packOf, directionsIn}
+use Rattle.round_hole.specs.Work.{Packable, packOf, directionsIn}
 use Rattle.round_hole.proofs.DirectionLaws.{directions-short, directions-one}
 use Rattle.round_hole.proofs.RoundLaws.{directions-packed, directions-same}
 use Rattle.round_frame.specs.declared.frame.Frame.{Frame}
 use Rattle.round_frame.specs.Frame.{vertexDirections, runDirections}
 use Rattle.round_frame.specs.Polygons.{directionsTo}
-use Rattle.round_frame.specs.Bore.{DirectionsPut}
+use Rattle.round_frame.specs.Work.{DirectionsPut}
 use Rattle.round_frame.proofs.RunLaws.{run-starts, run-ends, run-inside, run-directions}
 use Rattle.round_frame.proofs.ChoiceLaws.{to-all, directions-none, directions-next}
 

@@ -18,7 +18,7 @@ use Rattle.solid_faces.specs.Faces.{isNew, faceNumber, polygonCorner}
 use Rattle.solid_faces.specs.Kept.{Chain}
 use Rattle.solid_faces.proofs.ChainLaws.{fold-first, OnFace, on-fold}
 use Rattle.round_hole.specs.declared.direction.Direction.{Direction}
-use Rattle.round_hole.specs.Cells.{directionsIn}
+use Rattle.round_hole.specs.Work.{directionsIn}
 use Rattle.round_frame.specs.declared.frame.Frame.{Frame}
 use Rattle.round_frame.specs.declared.extent.Extent.{Extent}
 use Rattle.round_frame.specs.Frame.{nowhere, runExtent, runDirections}

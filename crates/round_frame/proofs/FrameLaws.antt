@@ -7,7 +7,8 @@ use native.Mathlib.Omega.{arith}
 use lib.Dec.{lit≤, lit<}
 use lib.Ieee.{Float, binary64, sub, mul, lt, ofBits}
 use lib.Ieee.Fits.{add-fits, sub-fits}
-use Rattle.num_float.specs.Within.{Within, Bounded}
+use Rattle.num_float.specs.Within.{Within}
+use Rattle.num_float.specs.Work.{Bounded}
 use Rattle.num_float.proofs.Within.{held-small, wider, add-within, sub-within, mul-within}
 use Rattle.num_norm.proofs.Normalized.{normalized-2}
 use Rattle.num_real.specs.Select.{absOf}
@@ -17,10 +18,11 @@ use Rattle.math.specs.Vector.{one, xVec, yVec, minus, dotOf, crossOf, normalize
 use Rattle.math.specs.Vector as vector
 use Rattle.round_hole.specs.declared.direction.Direction.{Direction}
 use Rattle.round_hole.specs.Direction.{e-6, lengthOf, directionOf}
-use Rattle.round_hole.specs.Cells.{Packable}
+use Rattle.round_hole.specs.Work.{Packable}
 use Rattle.round_hole.proofs.DirectionLaws.{direction-packable}
 use Rattle.round_frame.specs.declared.frame.Frame.{Frame}
-use Rattle.round_frame.specs.Frame.{acrossOf, frameOf, Central}
+use Rattle.round_frame.specs.Frame.{acrossOf, frameOf}
+use Rattle.round_frame.specs.Work.{Central}
 
 -- each component is an f64 that is finite, and at most b in size
 pub record VecBounded (v : Vec3) (b : ℕ) : Type 0 where

@@ -13,10 +13,11 @@ use Rattle.file_part.specs.Layout.{vertexCount, polygonCount, entryAt}
 use Rattle.file_part.specs.Part.{Part, firstAt, countAt, polygonAt, partOf}
 use Rattle.file_part.proofs.PartLaws.{part-polygons}
 use Rattle.file_ok.specs.Rules.{runStart}
-use Rattle.file_ok.specs.Verdict.{Readable}
+use Rattle.file_ok.specs.Work.{Readable}
 use Rattle.file_ok.proofs.PolygonLaws.{start-more}
 use Rattle.file_ok.proofs.ReadableLaws.{readable-run}
-use Rattle.solid_polygon.specs.Polygon.{cornerAt, centroidOf}
+use Rattle.solid_polygon.specs.Polygon.{centroidOf}
+use Rattle.solid_polygon.specs.Work.{cornerAt}
 use Rattle.solid_faces.specs.Faces.{polygonCorner, polygonPlane, polygonArea}
 use Rattle.solid_faces.proofs.BodyLaws.{EntryRoom, entry-room, RunRoom, run-room}
 use Rattle.round_hole.specs.declared.direction.Direction.{Direction}

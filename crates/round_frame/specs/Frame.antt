@@ -6,7 +6,6 @@ use Prim.Native.Nat.{ℕ, zero, suc}
 use lib.Ieee.{Float, inf, binary64, add, sub, mul}
 use Rattle.num_real.specs.Select.{minOf, maxOf}
 use Rattle.math.specs.declared.Vec3.{Vec3}
-use Rattle.math.specs.Size.{VecWithin}
 use Rattle.math.specs.Vector.{plus, minus, times, dotOf, crossOf, normalizedOf, perpendicularOf}
 use Rattle.solid_polygon.specs.Polygon.{half}
 use Rattle.round_hole.specs.declared.direction.Direction.{Direction}
@@ -71,9 +70,3 @@ vertexDirections a v = offsetDirections (dotOf (minus v (a .origin)) (a .x)) (do
 unfoldable pub runDirections : Frame → (ℕ → Vec3) → ℕ → List Direction
 runDirections a c zero = []
 runDirections a c (suc k) = runDirections a c k ++ vertexDirections a (c k)
-
--- ---- the frame of an accepted cylinder: vertices lie within 20,000 of its origin, and x and y are short, so that offsets are
-pub record Central (a : Frame) : Type 0 where
-  pub near : VecWithin (a .origin) 10000
-  pub x-short : VecWithin (a .x) 2
-  pub y-short : VecWithin (a .y) 8

@@ -2,4 +2,4 @@
 pub mod Frame
 pub mod Polygons
 pub mod Measure
-pub mod Bore
+pub mod Work

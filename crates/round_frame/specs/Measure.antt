@@ -1,7 +1,7 @@
 -- Axis, length and centre of each face, in a list of numbers. Definitions only.
 use mathlib.Core.List.{List}
 use Prim.Native.Nat.{ℕ, _+_, _*_}
-use lib.ListN.{getD, set}
+use lib.ListN.{getD}
 use lib.Ieee.{Float, nan}
 use Rattle.math.specs.Vector.{vec}
 use Rattle.round_frame.specs.declared.measure.Measure.{Measure}
@@ -14,10 +14,3 @@ measureAt l f =
       length = getD l (7 * f + 3) nan;
       centre = vec (getD l (7 * f + 4) nan) (getD l (7 * f + 5) nan) (getD l (7 * f + 6) nan);
     }
-
--- the numbers with m as those of face f
-unfoldable pub putMeasure : List Float → ℕ → Measure → List Float
-putMeasure l f m =
-    set (set (set (set (set (set (set l
-    (7 * f) (m .axis .x)) (7 * f + 1) (m .axis .y)) (7 * f + 2) (m .axis .z)) (7 * f + 3) (m .length))
-    (7 * f + 4) (m .centre .x)) (7 * f + 5) (m .centre .y)) (7 * f + 6) (m .centre .z)

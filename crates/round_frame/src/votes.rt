@@ -5,7 +5,7 @@ ghost use Prim.Native.Nat.{_+_, _*_, _≤_, _<_};
 ghost use lib.ListN.{length};
 ghost use Rattle.file_part.specs.Layout.{vertexCount};
 ghost use Rattle.file_part.specs.Part.{partOf};
-ghost use Rattle.file_ok.specs.Verdict.{Readable};
+ghost use Rattle.file_ok.specs.Work.{Readable};
 ghost use Rattle.solid_faces.specs.Faces.{isNew, faceNumber};
 ghost use Rattle.solid_faces.specs.Kept.{Chain, planeAt, KeptPlanes, KeptAreas};
 ghost use Rattle.round_frame.specs.Polygons.{polygonVote, votesTo};

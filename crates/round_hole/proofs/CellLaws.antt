@@ -15,7 +15,7 @@ use mir.Facts.{toZ-pos, toZ-ofZ}
 use borrow.Author.Tests.{lt-ltb, le-ltb}
 use Rattle.num_float.proofs.Tests.{fails}
 use Rattle.round_hole.specs.declared.direction.Direction.{Direction}
-use Rattle.round_hole.specs.Cells.{Packable, Near, fromLowest, packOf, unpackOf}
+use Rattle.round_hole.specs.Work.{Packable, Near, fromLowest, packOf, unpackOf}
 use Rattle.round_hole.proofs.WholeLaws.{in-range, read-back}
 
 -- ---- a number from -2^20 to 2^20, counted from -2^20 on

@@ -11,7 +11,8 @@ use lib.Ieee.Fits.{add-fits, mul-fits}
 use lib.Ieee.Scale.{finite}
 use Rattle.num_root.specs.Root.{root}
 use Rattle.num_float.specs.Units.{minus-sign}
-use Rattle.num_float.specs.Within.{Within, Bounded}
+use Rattle.num_float.specs.Within.{Within}
+use Rattle.num_float.specs.Work.{Bounded}
 use Rattle.num_float.proofs.NonNegative.{plus-nonneg, finite-number}
 use Rattle.num_float.proofs.Order.{not-lt-le, le-trans, le-numbers}
 use Rattle.num_float.proofs.Units.{round-sign}
@@ -21,7 +22,7 @@ use Rattle.num_norm.proofs.RootUnits.{root-finite}
 use Rattle.num_norm.proofs.Squares.{Term, sum-sign, first-le, last-term}
 use Rattle.num_real.proofs.RoundingLaws.{round-within}
 use Rattle.round_hole.specs.Direction.{e-6, scale, lengthOf, wholePart, directionOf, offsetDirections}
-use Rattle.round_hole.specs.Cells.{Packable}
+use Rattle.round_hole.specs.Work.{Packable}
 
 -- ---- the steps of `direction`
 pub direction-whole : (x y length : Float) (u v u' v' : ℤ) → u ≡ wholePart x length → v ≡ wholePart y length → u' ≡ u → v' ≡ v

@@ -11,7 +11,7 @@ use lib.ListN.{getD}
 use Rattle.num_float.proofs.Tests.{contrary, and-true, and-false-left, and-false-right, lt-or-ge}
 use Rattle.round_hole.specs.declared.direction.Direction.{Direction}
 use Rattle.round_hole.specs.Direction.{follows, someFollows, allFollowed, goesRound}
-use Rattle.round_hole.specs.Cells.{Packable, packOf, unpackOf, directionAt, directionsIn, Found, None, SomeBetween, TrueIfFound}
+use Rattle.round_hole.specs.Work.{Packable, packOf, unpackOf, directionAt, directionsIn, Found, None, SomeBetween, TrueIfFound}
 use Rattle.round_hole.proofs.CellLaws.{unpack-pack}
 
 -- ---- one direction more at the end of a list

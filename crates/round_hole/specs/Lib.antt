@@ -1,4 +1,4 @@
 -- Holes by directions in whole numbers.
 pub mod Direction
 pub mod GoesRound
-pub mod Cells
+pub mod Work

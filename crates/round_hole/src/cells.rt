@@ -1,6 +1,6 @@
 // Directions in the cells of a slice of f64, one to a cell: u and v, each counted from -2^20 on, are the two halves of the cell's bits.
 ghost use mathlib.Core.Path.{_≡_};
-ghost use Rattle.round_hole.specs.Cells.{Packable, Near, packOf, unpackOf};
+ghost use Rattle.round_hole.specs.Work.{Packable, Near, packOf, unpackOf};
 use crate::direction::Direction;
 use num_real::bits::from_bits;
 use num_real::bits::to_bits;

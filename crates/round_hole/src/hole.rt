@@ -5,7 +5,7 @@ ghost use lib.IntN.{natAbs};
 ghost use lib.ListN.{length};
 ghost use Rattle.round_hole.specs.Direction as definition;
 ghost use Rattle.round_hole.specs.Direction.{crossOf, dotOf, someFollows, goesRound};
-ghost use Rattle.round_hole.specs.Cells.{Near, SomeBetween, TrueIfFound, directionAt, directionsIn};
+ghost use Rattle.round_hole.specs.Work.{Near, SomeBetween, TrueIfFound, directionAt, directionsIn};
 use crate::cells::unpack;
 use crate::direction::Direction;
 

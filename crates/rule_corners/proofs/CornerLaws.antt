@@ -15,7 +15,7 @@ use Rattle.list_laws.specs.Region.{Outside}
 use Rattle.list_laws.proofs.Regions.{part-length, part-put}
 use Rattle.list_laws.proofs.Outside.{outside-none, outside-then, outside-wide, outside-set, outside-put}
 use Rattle.list_groups.specs.Groups.{passing}
-use Rattle.list_groups.specs.Order.{WholeIs, KeysPut, Sorted}
+use Rattle.list_groups.specs.Work.{WholeIs, KeysPut, Sorted, pairKey}
 use Rattle.file_part.specs.Layout.{vertexCount}
 use Rattle.file_part.specs.Part.{Part, partOf}
 use Rattle.file_part.proofs.PartLaws.{part-vertices}
@@ -33,15 +33,13 @@ use Rattle.solid_ranks.specs.Kept.{Ranked}
 use Rattle.solid_tours.proofs.PutLaws.{still-standing, still-ranked}
 use Rattle.solid_pairs.specs.declared.FacePair.{FacePair}
 use Rattle.solid_pairs.specs.Pairs.{lower, higher}
-use Rattle.solid_pairs.specs.Kept.{PairIs, lowRank, highRank, itemKey, PairsSorted}
+use Rattle.solid_pairs.specs.Work.{PairIs, lowRank, highRank, itemKey, PairsSorted}
 use Rattle.solid_pairs.proofs.PairLaws.{pairs-sorted}
-use Rattle.list_groups.specs.Groups.{pairKey}
 use Rattle.num_float.proofs.Tests.{and-left}
 use Rattle.rule_corners.specs.declared.segment.Found.{Found}
 use Rattle.rule_corners.specs.declared.segment.Found.the-variants.{Corner, Nothing}
 use Rattle.rule_corners.specs.Corners.{isCorner, cornerSides, cornerCount, cornerSide, nearFace, farFace}
-use Rattle.rule_corners.specs.Kept.{cornerKeys, cornerOrder, CornersPut}
-use Rattle.rule_corners.specs.Work.{FoundIs, segmentKey, CornersTo, CornerPut, AllPut}
+use Rattle.rule_corners.specs.Work.{cornerKeys, cornerOrder, CornersPut, FoundIs, segmentKey, CornersTo, CornerPut, AllPut}
 
 -- ---- one segment more
 passing-more : (test : ℕ → Bool) (s : ℕ) → test s ≡ true → passing test (s + 1) ≡ passing test s ++ (s ∷ [])

@@ -24,7 +24,8 @@ use Rattle.solid_polygon.specs.Polygon.{half}
 use Rattle.solid_faces.specs.Faces.{polygonPlane}
 use Rattle.solid_segments.specs.Sides.{ownerOf, toOf}
 use Rattle.solid_edges.specs.declared.edge.Edge.{Edge}
-use Rattle.solid_edges.specs.Edges.{pairIn, isTwo, faceOfSide, faceBeyond, isEdge, EdgeIs}
+use Rattle.solid_edges.specs.Edges.{pairIn, isTwo, faceOfSide, faceBeyond, isEdge}
+use Rattle.solid_edges.specs.Work.{EdgeIs}
 use Rattle.wall_ray.specs.Strike.{e-9}
 use Rattle.wall_samples.specs.Samples.{polygonCentroid}
 use Rattle.rule_corners.specs.declared.segment.Sides.{Sides}

@@ -25,9 +25,8 @@ use Rattle.rule_corners.specs.declared.corner.Corner.{Corner}
 use Rattle.rule_corners.specs.declared.corner.NextCorner.{NextCorner}
 use Rattle.rule_corners.specs.declared.sharp.Group.{Group}
 use Rattle.rule_corners.specs.Corners.{cornerCount, lengthFrom, cornerOf}
-use Rattle.rule_corners.specs.Kept.{cornerOrder, CornersOrdered, NextCornerIs}
+use Rattle.rule_corners.specs.Work.{cornerOrder, CornersOrdered, NextCornerIs, GroupThere, SharpTo}
 use Rattle.rule_corners.specs.Sharp.{thousandth, isReached, filletOf, sharpCorner, sharpCorners}
-use Rattle.rule_corners.specs.Work.{GroupThere, SharpTo}
 use Rattle.rule_corners.proofs.SizeLaws.{length-accepted, fillet-accepted}
 use Rattle.rule_corners.proofs.WalkLaws.{most, order-long, corners-start, next-corner, corners-end, corners-below}
 

@@ -8,8 +8,8 @@ use lib.ListN.{length, getD, take, drop}
 use lib.Ieee.{Float, binary64, add}
 use Rattle.list_laws.specs.Region.{part}
 use Rattle.list_laws.proofs.Regions.{part-length, part-place, part-more, part-first}
-use Rattle.list_sort.specs.Sorted.{Numbered}
-use Rattle.list_groups.specs.Order.{RunEnds}
+use Rattle.list_sort.specs.Work.{Numbered}
+use Rattle.list_groups.specs.Work.{RunEnds}
 use Rattle.math.specs.declared.Vec3.{Vec3}
 use Rattle.math.specs.Vector.{zero}
 use Rattle.file_part.specs.Part.{Part, partOf}
@@ -25,15 +25,14 @@ use Rattle.scratch.proofs.StandingLaws.{placed-polygons, placed-vertices}
 use Rattle.scratch.proofs.WordsLaws.{face-at}
 use Rattle.solid_pairs.specs.declared.FacePair.{FacePair}
 use Rattle.solid_pairs.specs.Pairs.{lower, higher}
-use Rattle.solid_pairs.specs.Kept.{PairIs}
+use Rattle.solid_pairs.specs.Work.{PairIs}
 use Rattle.solid_pairs.proofs.PairLaws.{lower-below, higher-below, item-below, group-below, pairs-start, next-pair, pairs-end}
 use Rattle.rule_corners.specs.declared.segment.Sides.{Sides}
 use Rattle.rule_corners.specs.declared.corner.Two.{Two}
 use Rattle.rule_corners.specs.declared.corner.Corner.{Corner}
 use Rattle.rule_corners.specs.declared.corner.NextCorner.{NextCorner}
 use Rattle.rule_corners.specs.Corners.{polygonBeyond, cornerCount, cornerSide, nearFace, farFace, midOf, segmentLength, lengthFrom, lastOf, isTurned, lowerNormal, higherNormal, cornerOf, overCorners}
-use Rattle.rule_corners.specs.Kept.{cornerKeys, cornerOrder, CornersOrdered, CornersMet, NextCornerIs}
-use Rattle.rule_corners.specs.Work.{SidesOf, SideAt, Normals}
+use Rattle.rule_corners.specs.Work.{cornerKeys, cornerOrder, CornersOrdered, CornersMet, NextCornerIs, SidesOf, SideAt, Normals}
 use Rattle.rule_corners.proofs.CornerLaws.{corner-most, corner-side, corner-faces, corner-edge}
 
 -- ---- the faces of a corner are those of its segment

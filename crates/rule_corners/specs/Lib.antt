@@ -1,5 +1,4 @@
 -- Inside corners between flat faces.
 pub mod Corners
 pub mod Sharp
-pub mod Kept
 pub mod Work

@@ -16,7 +16,7 @@ use Rattle.list_groups.proofs.Flat.{joined-none, joined-suc}
 use Rattle.file_field.specs.Field.{vecAt}
 use Rattle.file_part.specs.Part.{Part, partOf}
 use Rattle.file_part.proofs.PartLaws.{part-vertices, part-vertex}
-use Rattle.file_ok.specs.Verdict.{Readable}
+use Rattle.file_ok.specs.Work.{Readable}
 use Rattle.file_ok.proofs.ReadableLaws.{readable-vertex-room}
 use Rattle.solid_faces.specs.Faces.{facesOf, faceNumber}
 use Rattle.wall_ray.specs.Strike.{e-9}

@@ -16,7 +16,7 @@ use Rattle.math.specs.Vector as vector
 use Rattle.file_field.specs.Field.{vecAt}
 use Rattle.file_part.specs.Layout.{vertexCount, entryAt}
 use Rattle.file_part.specs.Part.{Part, firstAt, countAt, polygonAt, partOf}
-use Rattle.solid_polygon.specs.Polygon.{cornerAt}
+use Rattle.solid_polygon.specs.Work.{cornerAt}
 use Rattle.solid_faces.specs.Faces.{isNew, faceNumber, polygonCorner}
 use Rattle.solid_faces.specs.Kept.{Chain}
 use Rattle.solid_faces.proofs.ChainLaws.{fold-first, OnFace, on-fold}

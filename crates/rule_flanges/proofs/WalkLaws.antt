@@ -12,7 +12,7 @@ use Rattle.math.specs.declared.Vec3.{Vec3}
 use Rattle.list_groups.specs.Groups.{joined, unlessEmpty}
 use Rattle.list_groups.proofs.Flat.{joined-none, joined-suc}
 use Rattle.file_part.specs.Part.{Part, partOf}
-use Rattle.file_ok.specs.Verdict.{Readable}
+use Rattle.file_ok.specs.Work.{Readable}
 use Rattle.solid_faces.specs.Faces.{facesOf}
 use Rattle.scratch.specs.declared.regions.Regions.{Regions}
 use Rattle.solid_ranks.specs.Ranks.{rankOf, faceOfRank}

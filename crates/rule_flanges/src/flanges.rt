@@ -4,7 +4,7 @@ ghost use Prim.Native.Nat.{_+_, _*_, _≤_, _<_};
 ghost use Rattle.file_part.specs.Part.{partOf};
 ghost use Rattle.solid_faces.specs.Faces.{facesOf};
 ghost use Rattle.measure_sizes.specs.Reading.{ReadingBounds};
-ghost use Rattle.sheet_bends.specs.Kept.{SheetStands};
+ghost use Rattle.sheet_bends.specs.Work.{SheetStands};
 ghost use Rattle.fault_row.specs.Faults.{FaultsPut};
 ghost use Rattle.fault_text.specs.Meaning.{faultOf, GoodRow};
 ghost use Rattle.rule_flanges.specs.Flanges.{reachOf, flangeFaults, shortFlanges};

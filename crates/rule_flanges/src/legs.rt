@@ -11,7 +11,7 @@ ghost use Rattle.solid_tours.specs.Tours.{edgesBetween};
 ghost use Rattle.solid_tours.specs.Kept.{GroupPlaces};
 ghost use Rattle.round_all.specs.Round.{isRound};
 ghost use Rattle.sheet_bends.specs.Bends.{outsideOf, isBend};
-ghost use Rattle.sheet_bends.specs.Kept.{SheetStands};
+ghost use Rattle.sheet_bends.specs.Work.{SheetStands};
 ghost use Rattle.rule_flanges.specs.Flanges.{runsOn, groupLegs, isSeen, legsBeside, legsOf};
 ghost use Rattle.rule_flanges.specs.Work.{legsIn, legAt, LegThere, LegsThere, LegsTaken};
 use list_cells::cell;

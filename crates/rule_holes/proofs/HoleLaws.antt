@@ -32,7 +32,7 @@ use Rattle.measure_sizes.proofs.Rounds.{round-bounds}
 use Rattle.measure_sizes.proofs.Limits.{gap-accepted}
 use Rattle.sheet_bends.specs.declared.Sheet.{Sheet}
 use Rattle.sheet_bends.specs.Bends.{isBendFace}
-use Rattle.sheet_bends.specs.Kept.{SheetStands}
+use Rattle.sheet_bends.specs.Work.{SheetStands}
 use Rattle.fault_row.specs.Fault.{Fault}
 use Rattle.fault_row.specs.Row.{row, RowPut}
 use Rattle.fault_row.specs.Faults.{FaultsPut}

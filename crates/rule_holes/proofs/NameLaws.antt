@@ -18,7 +18,8 @@ use Rattle.file_part.proofs.PartLaws.{part-job}
 use Rattle.solid_faces.specs.Faces.{Checked}
 use Rattle.fault_text.specs.Job.{nameOr}
 use Rattle.fault_text.proofs.JobLaws.{checked-length, name-lent, name-to}
-use Rattle.rule_holes.specs.Name.{startsWith, startsAt, contains, isNamed}
+use Rattle.rule_holes.specs.Name.{startsWith, contains, isNamed}
+use Rattle.rule_holes.specs.Work.{startsAt}
 
 -- ---- whether a text begins with a word
 -- it does not where it is shorter

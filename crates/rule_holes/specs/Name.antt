@@ -3,7 +3,6 @@ use mathlib.Core.Bool.{Bool, true, false, _&&_, _||_}
 use mathlib.Core.List.{List, [], _∷_}
 use Prim.Native.Nat.{ℕ}
 use lib.Dec.{eqb}
-use lib.ListN.{drop}
 use Rattle.file_part.specs.Part.{Part}
 
 -- the text begins with these bytes
@@ -11,10 +10,6 @@ unfoldable pub startsWith : List ℕ → List ℕ → Bool
 startsWith [] text = true
 startsWith (w ∷ ws) [] = false
 startsWith (w ∷ ws) (b ∷ text) = eqb w b && startsWith ws text
-
--- it does from place `at` on
-unfoldable pub startsAt : List ℕ → List ℕ → ℕ → Bool
-startsAt word text at = startsWith word (drop at text)
 
 -- it does from some place on
 unfoldable pub contains : List ℕ → List ℕ → Bool

@@ -1,9 +1,9 @@
 -- What the functions of this crate leave on the way. A reader may pass over it.
-use mathlib.Core.Path.{_≡_}
 use mathlib.Core.Bool.{Bool, true, false, cond}
 use mathlib.Core.List.{List}
+use mathlib.Core.Path.{_≡_}
 use Prim.Native.Nat.{ℕ, _+_, _*_, _^_, _≤_, _<_}
-use lib.ListN.{length, getD}
+use lib.ListN.{drop, length, getD}
 use lib.Ieee.{Float, lt}
 use Rattle.num_float.specs.Sign.{NonNeg}
 use Rattle.num_float.specs.Within.{Within}
@@ -19,9 +19,16 @@ use Rattle.fault_row.specs.Faults.{FaultsPut}
 use Rattle.fault_text.specs.Meaning.{faultOf, GoodRow}
 use Rattle.rule_holes.specs.declared.nearest.Nearest.{Nearest}
 use Rattle.rule_holes.specs.declared.holes.Limits.{Limits}
+use Rattle.rule_holes.specs.Name.{startsWith}
 use Rattle.rule_holes.specs.Nearest.{platesOf, isAmong, gapBetween}
 use Rattle.rule_holes.specs.Holes.{minHole, needOf, smallHole, gapFault, holeFaults}
 
+-- ---- beside Name.antt
+-- the text has these bytes from place `at` on
+unfoldable pub startsAt : List ℕ → List ℕ → ℕ → Bool
+startsAt word text at = startsWith word (drop at text)
+
+-- ---- on the way
 -- 1 for each flat face around the hole h, 0 for the other faces
 pub record Plates (t : Part) (h : ℕ) (plates : List ℕ) : Type 0 where
   pub each : (g : ℕ) → g < facesOf t → getD plates g 0 ≡ cond (isAmong (platesOf t h) g) 1 0

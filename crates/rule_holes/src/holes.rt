@@ -7,7 +7,7 @@ ghost use Rattle.file_part.specs.Part.{partOf};
 ghost use Rattle.solid_faces.specs.Faces.{facesOf, Checked};
 ghost use Rattle.round_all.specs.Round.{isRound, isHole, roundOf};
 ghost use Rattle.measure_sizes.specs.Reading.{ReadingBounds};
-ghost use Rattle.sheet_bends.specs.Kept.{SheetStands};
+ghost use Rattle.sheet_bends.specs.Work.{SheetStands};
 ghost use Rattle.fault_row.specs.Faults.{FaultsPut};
 ghost use Rattle.fault_text.specs.Meaning.{faultOf, GoodRow};
 ghost use Rattle.rule_holes.specs.Holes.{minHole, holeFaults, sheetHoles};

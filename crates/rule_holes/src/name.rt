@@ -4,7 +4,8 @@ ghost use Prim.Native.Nat.{_≤_};
 ghost use lib.ListN.{length};
 ghost use Rattle.file_part.specs.Part.{partOf};
 ghost use Rattle.solid_faces.specs.Faces.{Checked};
-ghost use Rattle.rule_holes.specs.Name.{startsAt, contains, isNamed};
+ghost use Rattle.rule_holes.specs.Name.{contains, isNamed};
+ghost use Rattle.rule_holes.specs.Work.{startsAt};
 use fault_text::job::job_of;
 use fault_text::job::job_place;
 

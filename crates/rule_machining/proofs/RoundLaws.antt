@@ -20,7 +20,7 @@ use Rattle.round_all.specs.Kept.{roundKind, Rounds}
 use Rattle.round_all.proofs.PutLaws.{face-low}
 use Rattle.round_all.proofs.RoundLaws.{kind-at, kind-round, rounds-more, rounds-skip}
 use Rattle.wall_pairs.specs.declared.Counts.{Counts}
-use Rattle.wall_pairs.specs.Kept.{Counted}
+use Rattle.wall_pairs.specs.Work.{Counted}
 use Rattle.measure_sizes.specs.Round.{diameterOf, ratioOf, RoundBounds}
 use Rattle.measure_sizes.proofs.Rounds.{round-bounds}
 use Rattle.fault_row.specs.declared.row.FaultRow.{FaultRow}

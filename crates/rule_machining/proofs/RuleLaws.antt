@@ -17,12 +17,12 @@ use Rattle.solid_ranks.proofs.KeptLaws.{ranked-kept}
 use Rattle.wall_samples.specs.Samples.{readingsOf}
 use Rattle.wall_samples.specs.Stored.{Readings}
 use Rattle.wall_samples.proofs.ReadingLaws.{readings-most}
-use Rattle.wall_pairs.specs.Kept.{WallsPut}
+use Rattle.wall_pairs.specs.Work.{WallsPut}
 use Rattle.wall_pairs.proofs.KeptLaws.{readings-kept}
 use Rattle.fault_row.specs.Faults.{FaultsPut}
 use Rattle.fault_row.proofs.FaultLaws.{faults-then}
 use Rattle.fault_text.specs.Meaning.{faultOf, GoodRow}
-use Rattle.rule_corners.specs.Kept.{CornersPut}
+use Rattle.rule_corners.specs.Work.{CornersPut}
 use Rattle.rule_corners.specs.Sharp.{sharpCorners}
 use Rattle.rule_machining.specs.Machining.{thinWalls, roundsFaults}
 use Rattle.rule_machining.specs.All.{machining, MachiningPut}

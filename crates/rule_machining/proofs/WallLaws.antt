@@ -28,7 +28,7 @@ use Rattle.wall_samples.specs.Stored.{reading}
 use Rattle.wall_samples.proofs.ReadingLaws.{readings-most}
 use Rattle.wall_pairs.specs.declared.NextWall.{NextWall}
 use Rattle.wall_pairs.specs.Walls.{leastFrom, leastOf}
-use Rattle.wall_pairs.specs.Kept.{readingOrder, WallsOrdered, WallsTo, NextWallIs}
+use Rattle.wall_pairs.specs.Work.{readingOrder, WallsOrdered, WallsTo, NextWallIs}
 use Rattle.wall_pairs.proofs.WallLaws.{walls-start, next-wall, walls-end, walls-below}
 use Rattle.measure_sizes.proofs.Readings.{reading-bounds}
 use Rattle.fault_row.specs.declared.fault.Severity.the-variants.{Error, Warning}

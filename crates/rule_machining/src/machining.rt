@@ -5,7 +5,7 @@ ghost use Prim.Native.Nat.{_+_, _*_, _≤_};
 ghost use Rattle.file_part.specs.Part.{partOf};
 ghost use Rattle.solid_faces.specs.Faces.{facesOf};
 ghost use Rattle.scratch.specs.Standing.{Standing};
-ghost use Rattle.wall_pairs.specs.Kept.{Counted};
+ghost use Rattle.wall_pairs.specs.Work.{Counted};
 ghost use Rattle.rule_corners.specs.Sharp.{sharpCorners};
 ghost use Rattle.rule_machining.specs.All.{MachiningPut};
 ghost use Rattle.rule_machining.specs.Machining.{roundsFaults};

@@ -4,7 +4,7 @@ ghost use Rattle.file_part.specs.Part.{partOf};
 ghost use Rattle.solid_faces.specs.Faces.{facesOf};
 ghost use Rattle.scratch.specs.Standing.{Standing};
 ghost use Rattle.round_all.specs.Kept.{Rounds};
-ghost use Rattle.wall_pairs.specs.Kept.{Counted};
+ghost use Rattle.wall_pairs.specs.Work.{Counted};
 ghost use Rattle.fault_row.specs.Faults.{FaultsPut};
 ghost use Rattle.fault_text.specs.Meaning.{faultOf, GoodRow};
 ghost use Rattle.rule_machining.specs.Machining.{smallHoles, deepHoles, tightRadii, deepCorners, holeFaults, insideFaults, roundFaults, roundsFaults};

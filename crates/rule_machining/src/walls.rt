@@ -7,7 +7,7 @@ ghost use lib.ListN.{length};
 ghost use Rattle.file_part.specs.Part.{partOf};
 ghost use Rattle.solid_polygon.specs.Polygon.{half};
 ghost use Rattle.wall_samples.specs.Samples.{readingsOf};
-ghost use Rattle.wall_pairs.specs.Kept.{Counted, WallsOrdered};
+ghost use Rattle.wall_pairs.specs.Work.{Counted, WallsOrdered};
 ghost use Rattle.fault_row.specs.Faults.{FaultsPut};
 ghost use Rattle.fault_text.specs.Meaning.{faultOf, GoodRow};
 ghost use Rattle.rule_machining.specs.Machining.{thinWalls};

@@ -23,7 +23,7 @@ use Rattle.solid_ranks.specs.Kept.{Ranked, RanksPut}
 use Rattle.solid_ranks.proofs.KeptLaws.{sorts-only, only-standing, ranked-kept}
 use Rattle.wall_samples.specs.Samples.{readingsOf}
 use Rattle.wall_samples.proofs.ReadingLaws.{readings-most}
-use Rattle.wall_pairs.specs.Kept.{WallsPut}
+use Rattle.wall_pairs.specs.Work.{WallsPut}
 use Rattle.round_frame.specs.declared.extent.Extent.{Extent}
 use Rattle.print_height.specs.Height.{upOf, heightsTo, heightsOf, heightOf}
 use Rattle.print_walls.specs.Walls.{printWalls}

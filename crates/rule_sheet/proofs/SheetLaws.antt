@@ -32,7 +32,8 @@ use Rattle.sheet_thickness.specs.Kept.{ThicknessIs, Measured, OffFaces}
 use Rattle.sheet_thickness.proofs.KeptLaws.{still-read, still-ordered}
 use Rattle.sheet_thickness.proofs.SizeLaws.{thickness-bounds}
 use Rattle.sheet_bends.specs.Bends.{bendCount}
-use Rattle.sheet_bends.specs.Kept.{BendsPut, SheetStands}
+use Rattle.sheet_bends.specs.Kept.{BendsPut}
+use Rattle.sheet_bends.specs.Work.{SheetStands}
 use Rattle.sheet_bends.proofs.BendLaws.{sheet-stands}
 use Rattle.fault_row.specs.declared.summary.Summary.{Summary}
 use Rattle.fault_row.specs.declared.summary.Found.{Found}

@@ -7,7 +7,7 @@ ghost use Rattle.solid_faces.specs.Faces.{facesOf};
 ghost use Rattle.scratch.specs.Standing.{Standing};
 ghost use Rattle.solid_ranks.specs.Kept.{Ranked};
 ghost use Rattle.measure_sizes.specs.Reading.{ReadingBounds};
-ghost use Rattle.sheet_bends.specs.Kept.{SheetStands};
+ghost use Rattle.sheet_bends.specs.Work.{SheetStands};
 ghost use Rattle.fault_row.specs.Faults.{FaultsPut};
 ghost use Rattle.fault_text.specs.Meaning.{faultOf, GoodRow};
 ghost use Rattle.rule_sheet.specs.All.{bentFaults, SheetPut};

@@ -16,7 +16,8 @@ use Rattle.math.specs.Vector as vector
 use Rattle.file_part.specs.Part.{Part}
 use Rattle.solid_faces.specs.Faces.{faceNumber, polygonArea}
 use Rattle.solid_volumes.specs.Volume.{Volumes}
-use Rattle.solid_faces.specs.Kept.{KeptPlanes, KeptAreas, AreasTo, FaceAreas}
+use Rattle.solid_faces.specs.Kept.{KeptPlanes, KeptAreas, FaceAreas}
+use Rattle.solid_faces.specs.Work.{AreasTo}
 use Rattle.solid_faces.proofs.KeptLaws.{sums-none, sums-more}
 use Rattle.scratch.specs.declared.regions.Regions.{Regions}
 use Rattle.scratch.specs.Regions.{Laid}

@@ -3,7 +3,8 @@ use mathlib.Core.Path.{_≡_}
 use Prim.Native.Nat.{_+_, _*_}
 use native.Mathlib.Omega.{arith}
 use Rattle.scratch.specs.declared.regions.Regions.{Regions}
-use Rattle.scratch.specs.Regions.{Laid, regionsOf}
+use Rattle.scratch.specs.Regions.{Laid}
+use Rattle.scratch.specs.Work.{regionsOf}
 
 pub only-regions : (at : Regions) → Laid at → at ≡ regionsOf (at .polygons) (at .vertices) (at .segments) (at .bodies)
 unfolding regionsOf

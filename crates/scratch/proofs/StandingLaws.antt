@@ -15,7 +15,8 @@ use Rattle.solid_boxes.specs.Tree.{PartTree}
 use Rattle.solid_faces.specs.Kept.{Faces, Chain, KeptPlanes, KeptAreas, FaceAreas}
 use Rattle.scratch.specs.declared.regions.Regions.{Regions}
 use Rattle.scratch.specs.Regions.{scanned, Laid}
-use Rattle.scratch.specs.Standing.{Placed, Words, Reals, Standing, BodyKept}
+use Rattle.scratch.specs.Standing.{Placed, Words, Reals, Standing}
+use Rattle.scratch.specs.Work.{BodyKept}
 
 -- the counts of the part
 pub placed-polygons : (s : List ℕ) (at : Regions) → Placed s at → at .polygons ≡ partOf s .polygons

@@ -1,6 +1,5 @@
 -- The regions of the lent scratch, as numbers of cells. Definitions only.
 use mathlib.Core.Path.{_≡_}
-use mathlib.Core.Bool.{Bool}
 use Prim.Native.Nat.{ℕ, _+_, _*_, _≤_}
 use Rattle.scratch.specs.declared.regions.Regions.{Regions}
 
@@ -72,38 +71,3 @@ pub record Laid (at : Regions) : Type 0 where
   pub free : at .free ≡ at .directions + at .vertices
   -- the end
   pub reals : at .reals ≡ realsNeeded (at .polygons) (at .vertices)
-
--- ---- the same as a function of P and V, and of what is asked for: `only-regions` of the laws says that a struct which is laid out so is this one
-unfoldable pub regionsOf : ℕ → ℕ → Bool → Bool → Regions
-regionsOf p v segments bodies =
-    record {
-      polygons = p;
-      vertices = v;
-      segments = segments;
-      bodies = bodies;
-      tree = p;
-      sides = 5 * p;
-      items = 5 * p + 3 * v;
-      sorted = 5 * p + 4 * v;
-      chain = 5 * p + 6 * v;
-      work = p + 6 * v;
-      faces = 5 * p + 8 * v;
-      firsts = 6 * p + 8 * v;
-      readings = 6 * p + 8 * v + 1024;
-      hits = 7 * p + 8 * v + 1024;
-      order = 8 * p + 8 * v + 1024;
-      kinds = 10 * p + 8 * v + 1024;
-      ranks = 11 * p + 8 * v + 1024;
-      words = wordsNeeded p v;
-      areas = 4 * p;
-      totals = 5 * p;
-      volumes = 5 * p + 1024;
-      boxes = 6 * p + 1024;
-      falling = 14 * p + 1024;
-      thickness = 15 * p + 1024;
-      weights = 16 * p + 1024;
-      rounds = 17 * p + 1024;
-      directions = 24 * p + 1024;
-      free = 24 * p + v + 1024;
-      reals = realsNeeded p v;
-    }

@@ -3,7 +3,7 @@ use mathlib.Core.Path.{_≡_}
 use mathlib.Core.Bool.{true}
 use mathlib.Core.List.{List}
 use Prim.Native.Nat.{ℕ, _≤_, _<_}
-use lib.ListN.{length, getD}
+use lib.ListN.{length}
 use lib.Ieee.{Float}
 use Rattle.list_laws.specs.Region.{part}
 use Rattle.file_part.specs.Layout.{vertexCount, polygonCount}
@@ -48,10 +48,3 @@ pub record Standing (s : List ℕ) (at : Regions) (words : List ℕ) (reals : Li
   pub the-reals : Reals (partOf s) at reals
   -- of document 02, item 7: "Bring back a tree of boxes, at most 8 polygons in a leaf"
   pub tree : scanned < at .polygons → PartTree (partOf s) (part (at .boxes) (at .falling) reals) (part (at .tree) (at .sides) words)
-
--- what later stages may change of the words: the cells for sides in order, and those past the body. All else is as it was
-pub record BodyKept (at : Regions) (old new : List ℕ) : Type 0 where
-  pub front : (i : ℕ) → i < at .items → getD new i 0 ≡ getD old i 0
-  pub chain : (i : ℕ) → at .chain ≤ i → i < at .faces → getD new i 0 ≡ getD old i 0
-  pub faces : (i : ℕ) → at .faces ≤ i → i < at .readings → getD new i 0 ≡ getD old i 0
-  pub long : length new ≡ length old

@@ -25,7 +25,8 @@ use Rattle.round_all.specs.Round.{isRound}
 use Rattle.round_all.specs.Kept.{Rounds}
 use Rattle.sheet_bends.specs.declared.Sheet.{Sheet}
 use Rattle.sheet_bends.specs.Bends.{isInside, isOutside, outsideOf, isBend}
-use Rattle.sheet_bends.specs.Kept.{bendCell, BendsPut, SheetStands}
+use Rattle.sheet_bends.specs.Kept.{bendCell, BendsPut}
+use Rattle.sheet_bends.specs.Work.{SheetStands}
 
 -- ---- its two faces
 bend-inside : (t : Part) (thick : Float) (f : ℕ) → isBend t thick f ≡ true → isInside t f ≡ true

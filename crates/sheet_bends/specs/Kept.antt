@@ -6,13 +6,9 @@ use Prim.Native.Nat.{ℕ, suc, _+_, _<_}
 use lib.ListN.{getD}
 use lib.Ieee.{Float}
 use Rattle.list_laws.specs.Region.{Outside}
-use Rattle.file_part.specs.Part.{Part, partOf}
+use Rattle.file_part.specs.Part.{Part}
 use Rattle.solid_faces.specs.Faces.{facesOf}
 use Rattle.scratch.specs.declared.regions.Regions.{Regions}
-use Rattle.solid_tours.specs.Kept.{EdgesOrdered}
-use Rattle.solid_tours.specs.Kept as tours
-use Rattle.round_all.specs.Kept.{Rounds}
-use Rattle.sheet_bends.specs.declared.Sheet.{Sheet}
 use Rattle.sheet_bends.specs.Bends.{outsideOf, isBend, bendCount, isBendFace}
 
 -- the bend of a face: 0 is none, and g + 1 is one with the outside face g
@@ -29,10 +25,3 @@ pub record BendsPut (t : Part) (thick : Float) (at : Regions) (words words′ : 
   pub count : r ≡ bendCount t thick
   pub bends : Bends t thick at words′
   pub kept : Outside 0 (at .order) (at .kinds) words words′
-
--- all that the rules on bends and holes ask for
-pub record SheetStands (s : List ℕ) (sheet : Sheet) (words : List ℕ) (reals : List Float) : Type 0 where
-  pub ordered : EdgesOrdered s (sheet .edges .at) words reals
-  pub counted : tours.Counted (partOf s) (sheet .edges)
-  pub rounds : Rounds (partOf s) (sheet .edges .at) words reals
-  pub bends : Bends (partOf s) (sheet .thickness) (sheet .edges .at) words

@@ -1,19 +1,32 @@
 -- What the private functions here say of the scratch: a reader of the meaning may pass over it. Definitions only.
+use mathlib.Core.List.{List}
 use mathlib.Core.Path.{_≡_}
 use mathlib.Core.Bool.{Bool, _&&_, _||_, cond}
-use mathlib.Core.List.{List}
 use Prim.Native.Nat.{ℕ, _+_, _-_, _≤_, _<_}
+use lib.Ieee.{Float}
 use lib.Dec.{eqb}
 use lib.ListN.{getD, set}
-use lib.Ieee.{Float}
 use Rattle.list_laws.specs.Region.{Outside}
-use Rattle.file_part.specs.Part.{Part}
+use Rattle.file_part.specs.Part.{partOf, Part}
 use Rattle.solid_faces.specs.Faces.{facesOf}
 use Rattle.solid_bodies.specs.Body.{someBelow}
 use Rattle.scratch.specs.declared.regions.Regions.{Regions}
+use Rattle.solid_tours.specs.Kept.{EdgesOrdered}
+use Rattle.solid_tours.specs.Kept as tours
+use Rattle.round_all.specs.Kept.{Rounds}
+use Rattle.sheet_bends.specs.declared.Sheet.{Sheet}
+use Rattle.sheet_bends.specs.Kept.{Bends, bendCell}
 use Rattle.sheet_bends.specs.Bends.{outsideOf, isBend}
-use Rattle.sheet_bends.specs.Kept.{bendCell}
 
+-- ---- beside Kept.antt
+-- all that the rules on bends and holes ask for
+pub record SheetStands (s : List ℕ) (sheet : Sheet) (words : List ℕ) (reals : List Float) : Type 0 where
+  pub ordered : EdgesOrdered s (sheet .edges .at) words reals
+  pub counted : tours.Counted (partOf s) (sheet .edges)
+  pub rounds : Rounds (partOf s) (sheet .edges .at) words reals
+  pub bends : Bends (partOf s) (sheet .thickness) (sheet .edges .at) words
+
+-- ---- on the way
 -- a bend of face f is put
 unfoldable pub bendStored : Regions → ℕ → ℕ → List ℕ → List ℕ
 bendStored at f bend words = set (set (set words (at .order + f) bend) (at .order + at .polygons + f) 1) (at .order + at .polygons + (bend - 1)) 1

@@ -10,10 +10,12 @@ use borrow.Rule.Slice.PartMut.{putMid}
 use Rattle.list_laws.specs.Region.{part, Outside}
 use Rattle.list_laws.proofs.Regions.{part-length, part-place}
 use Rattle.list_laws.proofs.Outside.{outside-put}
-use Rattle.list_sort.specs.Sorted.{Numbered, inOrder}
+use Rattle.list_sort.specs.Sorted.{inOrder}
+use Rattle.list_sort.specs.Work.{Numbered}
 use Rattle.list_sort.proofs.Counts.{each-first}
 use Rattle.list_sort.proofs.InOrder.{sorted-is, in-order-same}
-use Rattle.list_median.specs.Median.{weightTo, Pairs, Median}
+use Rattle.list_median.specs.Median.{weightTo, Median}
+use Rattle.list_median.specs.Work.{Pairs}
 use Rattle.list_median.proofs.MedianLaws.{weight-same, sorted-numbered}
 use Rattle.file_part.specs.Part.{Part, partOf}
 use Rattle.scratch.specs.declared.regions.Regions.{Regions}

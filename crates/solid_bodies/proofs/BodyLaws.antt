@@ -14,7 +14,8 @@ use Rattle.list_laws.proofs.Count.{lowest-passes, lowest-below}
 use Rattle.file_part.specs.Part.{Part}
 use Rattle.solid_segments.specs.Key.{bodyScale, sameKey}
 use Rattle.solid_segments.proofs.KeyLaws.{key-flip}
-use Rattle.solid_bodies.specs.Body.{Chain, here, step, Lowest, Touch, Joined, someBelow, touches, chained, bodyOf, Labels}
+use Rattle.solid_bodies.specs.Body.{Chain, here, step, Lowest, Touch, someBelow, touches, chained, bodyOf, Labels}
+use Rattle.solid_bodies.specs.Work.{Joined}
 use Rattle.solid_bodies.proofs.ChainLaws.{one, then, turned, lowest-only}
 
 -- ---- a number below n that passes

@@ -3,7 +3,7 @@ use Prim.Native.Nat.{ℕ}
 use native.Mathlib.Omega.{arith}
 use mathlib.Core.Path.{_≡_, refl, _∙_}
 use Rattle.solid_bodies.specs.Body.{Chain, here, step, Lowest}
-use Rattle.solid_bodies.specs.Forest.{Carries}
+use Rattle.solid_bodies.specs.Work.Forest.{Carries}
 
 pub one : {R : ℕ → ℕ → Type 0} {i j : ℕ} → R i j → Chain R i j
 one r = step r here

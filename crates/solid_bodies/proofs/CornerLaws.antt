@@ -20,16 +20,16 @@ use Rattle.file_field.specs.Field.{vecAt}
 use Rattle.file_part.specs.Layout.{vertexCount, polygonCount, entryAt}
 use Rattle.file_part.specs.Part.{Part, polygonAt, firstAt, countAt, partOf}
 use Rattle.file_ok.specs.Rules.{runStart}
-use Rattle.file_ok.specs.Verdict.{Readable}
+use Rattle.file_ok.specs.Work.{Readable}
 use Rattle.file_ok.proofs.ReadableLaws.{readable-counts, readable-vertex, readable-run, readable-whole}
 use Rattle.file_ok.proofs.PolygonLaws.{start-more}
-use Rattle.solid_segments.specs.Key.{bodyScale, keyPart, sameKey, fromZero, keyCell}
+use Rattle.solid_segments.specs.Key.{bodyScale, keyPart, sameKey}
+use Rattle.solid_segments.specs.Work.{fromZero, keyCell}
 use Rattle.solid_segments.proofs.KeyLaws.{int-same, key-parts, key-whole, body-key, from-zero-same}
 use Rattle.solid_bodies.specs.Body.{CornerOf, Touch, Lowest, bodyCells, Bodies}
-use Rattle.solid_bodies.specs.Forest.{Carries}
+use Rattle.solid_bodies.specs.Work.Forest.{Carries}
 use Rattle.list_laws.specs.Region.{part}
-use Rattle.solid_bodies.specs.Table.{KeyNumbers, Meet, keyAt, cornersOf, Memory, Labelled}
-use Rattle.solid_bodies.specs.Corner.{numberOf, KeyAt, KeyPut, Owned, Keyed, Cornered}
+use Rattle.solid_bodies.specs.Work.{KeyNumbers, Meet, keyAt, cornersOf, Memory, Labelled, numberOf, KeyAt, KeyPut, Owned, Keyed, Cornered}
 use Rattle.solid_bodies.proofs.ChainLaws.{one, lowest-carried}
 use Rattle.solid_bodies.proofs.BodyLaws.{lowest-body}
 use Rattle.list_laws.proofs.Regions.{part-put, part-length, put-before, put-inside}

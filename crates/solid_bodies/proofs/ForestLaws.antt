@@ -10,7 +10,7 @@ use mathlib.Core.List.{List}
 use lib.ListN.{length, getD, set, length-set}
 use lib.Seq.{getD-set-same, getD-set-other}
 use Rattle.solid_bodies.specs.Body.{Chain, here}
-use Rattle.solid_bodies.specs.Forest.{Falls, Carries, Up, Tie, Walked, Rooted, Linked, Flat}
+use Rattle.solid_bodies.specs.Work.Forest.{Falls, Carries, Up, Tie, Walked, Rooted, Linked, Flat}
 use Rattle.solid_bodies.proofs.ChainLaws.{one, then, turned, bind}
 
 below-of : {a b : ℕ} → a ≤ b → (a ≡ b → ⊥) → a < b

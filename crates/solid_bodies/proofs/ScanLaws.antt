@@ -8,8 +8,8 @@ use mathlib.Core.Logic.{inl, inr}
 use mathlib.Core.List.{List}
 use lib.ListN.{length, getD, List·getD-eq-default}
 use Rattle.solid_bodies.specs.Body.{Chain, here, Lowest}
-use Rattle.solid_bodies.specs.Forest.{Falls, Carries, Up, Tie, Linked, Taken, Apart, Flat}
-use Rattle.solid_bodies.specs.Table.{Corners, Meet, Made, Before}
+use Rattle.solid_bodies.specs.Work.Forest.{Falls, Carries, Up, Tie, Linked, Taken, Apart, Flat}
+use Rattle.solid_bodies.specs.Work.{Corners, Meet, Made, Before}
 use Rattle.solid_bodies.proofs.ChainLaws.{one, then, turned, bind, constant}
 use Rattle.solid_bodies.proofs.ForestLaws.{ups, up-turned}
 

@@ -6,9 +6,9 @@ use mathlib.Core.List.{List, _++_}
 use lib.ListN.{length, getD, set, take, drop, List·getD-append}
 use borrow.Rule.Slice.PartMut.{putMid, same-len-mid}
 use Rattle.solid_bodies.specs.Body.{Lowest}
-use Rattle.solid_bodies.specs.Forest.{Apart, Flat, Taken}
+use Rattle.solid_bodies.specs.Work.Forest.{Apart, Flat, Taken}
 use Rattle.list_laws.specs.Region.{part}
-use Rattle.solid_bodies.specs.Table.{Meet, cornersOf, cornersIn, keyAt, slotOf, Before, Made, Hashed, Memory, Kept, Scanned, Step, Labelled}
+use Rattle.solid_bodies.specs.Work.{Meet, cornersOf, cornersIn, keyAt, slotOf, Before, Made, Hashed, Memory, Kept, Scanned, Step, Labelled}
 use Rattle.solid_bodies.proofs.ScanLaws.{made-none, made-more, made-all}
 use Rattle.solid_bodies.proofs.TableLaws.{slot-in, hashed-none, hashed-more}
 use Rattle.list_laws.proofs.Regions.{part-put, part-before, part-length}

@@ -13,7 +13,7 @@ use borrow.Author.Tests.{eqb-true, eq-eqb}
 use lib.ListN.{length, getD, set, length-set}
 use lib.Seq.{getD-set-same, getD-set-other}
 use Rattle.num_float.proofs.Tests.{and-left, and-right, and-true, contrary}
-use Rattle.solid_bodies.specs.Table.{KeyNumbers, eqKey, Corners, slotOf, Before, Gap, Hashed}
+use Rattle.solid_bodies.specs.Work.{KeyNumbers, eqKey, Corners, slotOf, Before, Gap, Hashed}
 
 -- ---- the test of keys
 pub key-same : (k l : KeyNumbers) (r : Bool) → r ≡ eqKey k l → r ≡ true → k ≡ l

@@ -35,10 +35,6 @@ pub record Touch (t : Part) (i j : ℕ) : Type 0 where
   pub b-of : CornerOf t j b
   pub same : sameKey bodyScale (t .vertex a) (t .vertex b) ≡ true
 
--- polygons i and j are of one body
-abbrev pub Joined : Part → ℕ → ℕ → Type 0
-Joined t = Chain (Touch t)
-
 -- ---- by trying everything
 -- a number below n passes the test
 unfoldable pub someBelow : ℕ → (ℕ → Bool) → Bool

@@ -1,7 +1,7 @@
 // Union-find over a slice of parents, in which no parent is above its child.
 ghost use Prim.Native.Nat.{_<_, _^_};
 ghost use lib.ListN.{length};
-ghost use Rattle.solid_bodies.specs.Forest.{Falls, Apart, Rooted, Linked, Taken, Flat};
+ghost use Rattle.solid_bodies.specs.Work.Forest.{Falls, Apart, Rooted, Linked, Taken, Flat};
 use list_cells::wide;
 
 // Each is its own root.

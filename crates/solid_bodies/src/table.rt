@@ -3,7 +3,7 @@
 ghost use mathlib.Core.Path.{_≡_};
 ghost use Prim.Native.Nat.{_+_, _*_, _<_, _^_};
 ghost use lib.ListN.{length, getD, set};
-ghost use Rattle.solid_bodies.specs.Table.{keyAt, eqKey, cornersOf, slotOf, Before, Hashed};
+ghost use Rattle.solid_bodies.specs.Work.{keyAt, eqKey, cornersOf, slotOf, Before, Hashed};
 use list_cells::wide;
 
 // The polygon that corner v belongs to.

@@ -15,9 +15,9 @@ use Rattle.file_part.specs.Part.{Part, partOf}
 use Rattle.file_part.proofs.PartLaws.{part-polygons}
 use Rattle.solid_faces.specs.Faces.{Checked}
 use Rattle.solid_boxes.specs.declared.bounds.Bounds.{Bounds}
-use Rattle.solid_boxes.specs.Bounds.{padded, ownBox, Holds, joined, Tidy}
+use Rattle.solid_boxes.specs.Bounds.{padded, ownBox, Holds}
+use Rattle.solid_boxes.specs.Work.{joined, Tidy, putBox, Covers, Node, Filled, Started}
 use Rattle.solid_boxes.specs.Tree.{at, boxAt, Order, Starts, startAt, skipAt, Tree, PartTree}
-use Rattle.solid_boxes.specs.Work.{putBox, Covers, Node, Filled, Started}
 use Rattle.solid_boxes.proofs.OwnLaws.{own-tidy}
 
 pub holds-trans : (a b c : Bounds) → Holds a b → Holds b c → Holds a c

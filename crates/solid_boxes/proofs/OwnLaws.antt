@@ -23,11 +23,12 @@ use Rattle.file_part.specs.Layout.{vertexCount, polygonCount, entryAt}
 use Rattle.file_part.specs.Part.{firstAt, countAt, polygonAt, partOf}
 use Rattle.file_part.proofs.PartLaws.{part-polygons, part-count}
 use Rattle.file_ok.proofs.ReadableLaws.{readable-counts, readable-run, readable-vertex, readable-index}
-use Rattle.solid_polygon.specs.Polygon.{cornerAt}
+use Rattle.solid_polygon.specs.Work.{cornerAt}
 use Rattle.solid_faces.specs.Faces.{polygonCorner, Checked}
 use Rattle.solid_faces.proofs.BodyLaws.{checked-readable}
 use Rattle.solid_boxes.specs.declared.bounds.Bounds.{Bounds}
-use Rattle.solid_boxes.specs.Bounds.{grown, hullOf, widened, e-6, e-9, padded, ownBox, Fit, Tidy}
+use Rattle.solid_boxes.specs.Bounds.{grown, hullOf, widened, e-6, e-9, padded, ownBox}
+use Rattle.solid_boxes.specs.Work.{Fit, Tidy}
 
 pub small-count : (s : List ℕ) → Checked s → (n : ℕ) → n ≡ polygonCount s → n ≤ 4096
 small-count s C n e = omega (arith, e, readable-counts s (checked-readable s C) .1)

@@ -2,9 +2,7 @@
 use mathlib.Core.Path.{_≡_}
 use mathlib.Core.Bool.{true}
 use Prim.Native.Nat.{ℕ, zero, suc}
-use lib.Dec.{T}
 use lib.Ieee.{Float, binary64, add, sub, le, ofBits}
-use lib.Ieee.Scale.{finite}
 use Rattle.math.specs.declared.Vec3.{Vec3}
 use Rattle.math.specs.Vector.{vec, lowOf, highOf}
 use Rattle.file_part.specs.Part.{Part}
@@ -52,19 +50,3 @@ pub record Holds (c b : Bounds) : Type 0 where
   pub high-x : le (b .hi .x) (c .hi .x) ≡ true
   pub high-y : le (b .hi .y) (c .hi .y) ≡ true
   pub high-z : le (b .hi .z) (c .hi .z) ≡ true
-
--- the box of two boxes
-unfoldable pub joined : Bounds → Bounds → Bounds
-joined a b = record { lo = lowOf (a .lo) (b .lo); hi = highOf (a .hi) (b .hi) }
-
--- ---- a box with an inside
--- two bounds that are finite, the low one not above the high one
-pub record Fit (l h : Float) : Type 0 where
-  pub order : le l h ≡ true
-  pub low : T (finite l)
-  pub high : T (finite h)
-
-pub record Tidy (b : Bounds) : Type 0 where
-  pub x : Fit (b .lo .x) (b .hi .x)
-  pub y : Fit (b .lo .y) (b .hi .y)
-  pub z : Fit (b .lo .z) (b .hi .z)

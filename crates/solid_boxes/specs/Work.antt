@@ -1,12 +1,33 @@
 -- What the functions of this crate leave on the way. A reader may pass over it.
 use mathlib.Core.Path.{_≡_}
+use mathlib.Core.Bool.{true}
 use mathlib.Core.List.{List}
 use Prim.Native.Nat.{ℕ, _+_, _*_, _≤_, _<_}
+use lib.Dec.{T}
+use lib.Ieee.{Float, le}
+use lib.Ieee.Scale.{finite}
 use lib.ListN.{length, set}
-use lib.Ieee.{Float}
+use Rattle.math.specs.Vector.{lowOf, highOf}
 use Rattle.solid_boxes.specs.declared.bounds.Bounds.{Bounds}
 use Rattle.solid_boxes.specs.Bounds.{Holds}
 use Rattle.solid_boxes.specs.Tree.{at, boxAt, Order, Starts, startAt, skipAt}
+
+-- ---- one box in another: "A box above another holds its lowest and highest coordinates"
+-- the box of two boxes
+unfoldable pub joined : Bounds → Bounds → Bounds
+joined a b = record { lo = lowOf (a .lo) (b .lo); hi = highOf (a .hi) (b .hi) }
+
+-- ---- a box with an inside
+-- two bounds that are finite, the low one not above the high one
+pub record Fit (l h : Float) : Type 0 where
+  pub order : le l h ≡ true
+  pub low : T (finite l)
+  pub high : T (finite h)
+
+pub record Tidy (b : Bounds) : Type 0 where
+  pub x : Fit (b .lo .x) (b .hi .x)
+  pub y : Fit (b .lo .y) (b .hi .y)
+  pub z : Fit (b .lo .z) (b .hi .z)
 
 -- ---- the order
 abbrev pub swapped : List ℕ → ℕ → ℕ → List ℕ

@@ -1,6 +1,7 @@
 // Boxes.
 ghost use mathlib.Core.Path.{_≡_};
-ghost use Rattle.solid_boxes.specs.Bounds.{grown, widened, joined};
+ghost use Rattle.solid_boxes.specs.Bounds.{grown, widened};
+ghost use Rattle.solid_boxes.specs.Work.{joined};
 use math::Vec3;
 
 // The lowest and the highest coordinates of what lies in it.

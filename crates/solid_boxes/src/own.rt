@@ -4,7 +4,7 @@ ghost use Prim.Native.Nat.{_+_, _*_, _≤_, _<_};
 ghost use lib.ListN.{length};
 ghost use Rattle.file_part.specs.Layout.{vertexCount, polygonCount};
 ghost use Rattle.file_part.specs.Part.{partOf};
-ghost use Rattle.solid_polygon.specs.Polygon.{cornerAt};
+ghost use Rattle.solid_polygon.specs.Work.{cornerAt};
 ghost use Rattle.solid_faces.specs.Faces.{Checked};
 ghost use Rattle.solid_boxes.specs.Bounds.{hullOf, widened, e-6, padded, ownBox};
 use crate::bounds::Bounds;

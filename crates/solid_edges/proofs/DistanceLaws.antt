@@ -21,7 +21,8 @@ use Rattle.math.specs.Vector.{minus, lengthSqOf, lengthOf, distanceOf}
 use Rattle.file_part.specs.Part.{Part}
 use Rattle.solid_segments.specs.Sides.{toOf}
 use Rattle.solid_distance.specs.Segment.{nearestOn, segDistance}
-use Rattle.solid_edges.specs.Distance.{sideDistance, sideSquare, distanceTo}
+use Rattle.solid_edges.specs.Distance.{sideDistance, distanceTo}
+use Rattle.solid_edges.specs.Work.{sideSquare}
 
 -- ---- one side
 root-square : (t : Part) (p : Vec3) (s : ℕ) → sideDistance t p s ≡ root (sideSquare t p s)

@@ -10,14 +10,16 @@ use borrow.Author.Tests.{not-true, not-false, eq-eqb, ne-eqb, ltb-true, leb-true
 use Rattle.num_float.proofs.Tests.{contrary, and-true, and-left, and-right, and-false-left, and-false-right}
 use Rattle.file_part.specs.Layout.{vertexCount}
 use Rattle.file_part.specs.Part.{Part, partOf}
-use Rattle.file_ok.specs.Verdict.{Readable}
+use Rattle.file_ok.specs.Work.{Readable}
 use Rattle.file_part.proofs.PartLaws.{part-vertices}
-use Rattle.solid_segments.specs.Sides.{sameSide, SharedBy}
+use Rattle.solid_segments.specs.Sides.{sameSide}
+use Rattle.solid_segments.specs.Work.{SharedBy}
 use Rattle.solid_keys.proofs.MeaningLaws.{pair-shared, shared-pair}
 use Rattle.solid_segments.proofs.SharedLaws.{part-sides-alike}
 use Rattle.solid_faces.specs.Faces.{facesOf}
 use Rattle.solid_edges.specs.declared.edge.Edge.{Edge}
-use Rattle.solid_edges.specs.Edges.{pairIn, isTwo, faceOfSide, faceBeyond, isEdge, isEdgeOf, otherFace, EdgeIs, leadsTo}
+use Rattle.solid_edges.specs.Edges.{pairIn, isTwo, faceOfSide, faceBeyond, isEdge, isEdgeOf, otherFace}
+use Rattle.solid_edges.specs.Work.{EdgeIs, leadsTo}
 use Rattle.solid_edges.proofs.ScanLaws.{face-below}
 
 -- ---- `edge_at`

@@ -11,7 +11,7 @@ use lib.Dec.{eqb}
 use borrow.Author.Tests.{eq-eqb, ne-eqb}
 use Rattle.num_float.proofs.Tests.{refuted, contrary, and-left, and-right, lt-or-ge}
 use Rattle.file_part.specs.Part.{Part, partOf}
-use Rattle.file_ok.specs.Verdict.{Readable}
+use Rattle.file_ok.specs.Work.{Readable}
 use Rattle.file_part.proofs.PartLaws.{part-vertices}
 use Rattle.solid_faces.specs.Faces.{facesOf}
 use Rattle.solid_edges.specs.Edges.{isEdgeOf, otherFace}

@@ -11,7 +11,7 @@ use Rattle.list_laws.proofs.Below.{sum-none}
 use Rattle.file_part.specs.Layout.{vertexCount, polygonCount, entryAt}
 use Rattle.file_part.specs.Part.{Part, countAt, partOf}
 use Rattle.file_ok.specs.Rules.{runStart}
-use Rattle.file_ok.specs.Verdict.{Readable}
+use Rattle.file_ok.specs.Work.{Readable}
 use Rattle.file_part.proofs.PartLaws.{part-vertices, part-polygons}
 use Rattle.file_ok.proofs.ReadableLaws.{readable-length, readable-counts, readable-whole}
 use Rattle.solid_segments.specs.Sides.{ownerOf, toOf}
@@ -21,7 +21,7 @@ use Rattle.solid_faces.specs.Faces.{facesOf, faceNumber}
 use Rattle.solid_faces.proofs.FaceLaws.{number-below}
 use Rattle.solid_ids.proofs.KnownLaws.{known-readable}
 use Rattle.solid_edges.specs.Edges.{pairIn, faceOfSide}
-use Rattle.solid_edges.specs.Scan.{Lent}
+use Rattle.solid_edges.specs.Work.{Lent}
 
 -- ---- the run that a side is in
 record InRun (file : List ℕ) (s : ℕ) : Type 0 where

@@ -11,11 +11,12 @@ use Rattle.num_float.proofs.Tests.{contrary, lt-or-ge}
 use Rattle.list_laws.specs.Below.{countBelow}
 use Rattle.list_laws.proofs.Count.{count-none, count-le}
 use Rattle.file_part.specs.Part.{Part, partOf}
-use Rattle.file_ok.specs.Verdict.{Readable}
+use Rattle.file_ok.specs.Work.{Readable}
 use Rattle.solid_faces.specs.Faces.{facesOf}
 use Rattle.solid_edges.specs.Edges.{isEdgeOf, otherFace}
 use Rattle.solid_ids.specs.Ids.{faceBefore}
-use Rattle.solid_edges.specs.Neighbours.{isPast, isWanted, nextNeighbour, neighbourAt, NextNeighbour}
+use Rattle.solid_edges.specs.Neighbours.{isPast, isWanted, nextNeighbour, NextNeighbour}
+use Rattle.solid_edges.specs.Work.{neighbourAt}
 use Rattle.solid_ids.proofs.IdLaws.{face-irreflexive, face-transitive}
 use Rattle.solid_edges.proofs.NextLaws.{next-is, next-none, next-edge, next-after, next-below, next-first}
 

@@ -6,17 +6,12 @@ use Rattle.num_real.specs.Select.{minOf}
 use Rattle.math.specs.declared.Vec3.{Vec3}
 use Rattle.file_part.specs.Part.{Part}
 use Rattle.solid_segments.specs.Sides.{toOf}
-use Rattle.math.specs.Vector.{minus, lengthSqOf}
-use Rattle.solid_distance.specs.Segment.{nearestOn, segDistance}
+use Rattle.solid_distance.specs.Segment.{segDistance}
 use Rattle.solid_edges.specs.Edges.{isEdgeOf, isBetween}
 
 -- the distance of point p from the segment of side s
 unfoldable pub sideDistance : Part → Vec3 → ℕ → Float
 sideDistance t p s = segDistance p (t .vertex s) (t .vertex (toOf t s))
-
--- its square
-unfoldable pub sideSquare : Part → Vec3 → ℕ → Float
-sideSquare t p s = lengthSqOf (minus (nearestOn p (t .vertex s) (t .vertex (toOf t s))) p)
 
 -- the least over the sides below n that pass the test; infinity where none does
 unfoldable pub distanceTo : Part → (ℕ → Bool) → Vec3 → ℕ → Float

@@ -1,15 +1,13 @@
 -- The edges between faces: `model_edges` of solid.rs and `Part::new` of dfm.rs. Definitions only.
 -- An edge is a shared segment whose two polygons are of different faces. It has the number of the first of its two sides, so rising
 -- numbers are the order of the shared segments. (`model_edges` also keeps creases inside one face; `Part::new` leaves them out again.)
-use mathlib.Core.Path.{_≡_}
-use mathlib.Core.Bool.{Bool, true, not, _&&_, _||_, cond}
-use Prim.Native.Nat.{ℕ, suc, _+_, _-_}
+use mathlib.Core.Bool.{Bool, not, _&&_, _||_, cond}
+use Prim.Native.Nat.{ℕ, _+_, _-_}
 use lib.Dec.{eqb, ltb, leb}
 use Rattle.file_part.specs.Part.{Part}
 use Rattle.solid_keys.specs.Pair.{pairOf}
 use Rattle.solid_segments.specs.Sides.{ownerOf, sameSide}
 use Rattle.solid_faces.specs.Faces.{faceNumber}
-use Rattle.solid_edges.specs.declared.edge.Edge.{Edge}
 
 -- the pair of side s: u + 1 where s and then u, and no third side, have its key; see `pairOf` for the other sides
 unfoldable pub pairIn : Part → ℕ → ℕ
@@ -42,14 +40,3 @@ otherFace t f s = cond (eqb (faceOfSide t s) f) (faceBeyond t s) (faceOfSide t s
 -- an edge between faces f and g
 unfoldable pub isBetween : Part → ℕ → ℕ → ℕ → Bool
 isBetween t f g s = isEdgeOf t f s && eqb (otherFace t f s) g
-
--- ---- what the code answers of a side
--- whether it is an edge, and then its own face and the face beyond
-pub record EdgeIs (t : Part) (s : ℕ) (e : Edge) : Type 0 where
-  pub is : e .«is_edge» ≡ isEdge t s
-  pub near-is : e .«is_edge» ≡ true → e .near ≡ faceOfSide t s
-  pub beyond-is : e .«is_edge» ≡ true → e .beyond ≡ faceBeyond t s
-
--- the face that it leads to from face f: 0 is none, and g + 1 is face g
-unfoldable pub leadsTo : Part → ℕ → ℕ → ℕ
-leadsTo t f s = cond (isEdgeOf t f s) (suc (otherFace t f s)) 0

@@ -2,4 +2,4 @@
 pub mod Edges
 pub mod Neighbours
 pub mod Distance
-pub mod Scan
+pub mod Work

@@ -31,11 +31,6 @@ neighbourTo t f after (suc s) =
 unfoldable pub nextNeighbour : Part → ℕ → ℕ → ℕ
 nextNeighbour t f after = neighbourTo t f after (t .vertices)
 
--- one after the other: the first, and the next after each; 0 past the last
-unfoldable pub neighbourAt : Part → ℕ → ℕ → ℕ
-neighbourAt t f zero = nextNeighbour t f 0
-neighbourAt t f (suc k) = cond (eqb (neighbourAt t f k) 0) 0 (nextNeighbour t f (neighbourAt t f k))
-
 -- ---- the same, with nothing computed
 -- face g is the neighbour of f past `after` of the lowest id
 pub record NextNeighbour (t : Part) (f after g : ℕ) : Type 0 where

@@ -4,8 +4,8 @@ ghost use Prim.Native.Nat.{_<_};
 ghost use Rattle.file_part.specs.Layout.{vertexCount, polygonCount};
 ghost use Rattle.file_part.specs.Part.{partOf};
 ghost use Rattle.solid_segments.specs.Sides.{ownerOf, toOf};
-ghost use Rattle.solid_edges.specs.Edges.{pairIn, faceOfSide, leadsTo, EdgeIs};
-ghost use Rattle.solid_edges.specs.Scan.{Lent};
+ghost use Rattle.solid_edges.specs.Edges.{pairIn, faceOfSide};
+ghost use Rattle.solid_edges.specs.Work.{leadsTo, EdgeIs, Lent};
 use file_part::read::vertex_count;
 use list_cells::cell;
 

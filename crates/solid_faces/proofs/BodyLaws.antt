@@ -18,11 +18,13 @@ use Rattle.file_ok.specs.declared.verdict.Verdict.the-variants.{Accepted, TooSh
 use Rattle.file_part.specs.Layout.{vertexCount, polygonCount, entryAt}
 use Rattle.file_part.specs.Part.{Part, faceAt, firstAt, countAt, polygonAt, partOf}
 use Rattle.file_ok.specs.Rules.{runStart}
-use Rattle.file_ok.specs.Verdict.{number, verdictOf, Readable}
+use Rattle.file_ok.specs.Verdict.{number, verdictOf}
+use Rattle.file_ok.specs.Work.{Readable}
 use Rattle.file_part.proofs.PartLaws.{part-polygons}
 use Rattle.file_ok.proofs.ReadableLaws.{readable-length, readable-counts, readable-run, readable-whole}
 use Rattle.solid_polygon.specs.declared.polygon.Plane.{Plane}
-use Rattle.solid_polygon.specs.Polygon.{cornerAt, areaOf}
+use Rattle.solid_polygon.specs.Polygon.{areaOf}
+use Rattle.solid_polygon.specs.Work.{cornerAt}
 use Rattle.solid_polygon.specs.Plane.{isFlat, planeOf}
 use Rattle.solid_faces.specs.Faces.{facesOf, faceNumber, polygonCorner, polygonFlat, polygonPlane, polygonArea, someFlat, tooManyFaces, bodyVerdict, Checked}
 use Rattle.solid_faces.proofs.FaceLaws.{number-below}

@@ -13,7 +13,8 @@ use borrow.Author.Tests.{eq-eqb, ne-eqb, le-leb, lt-leb}
 use Rattle.num_float.proofs.Tests.{contrary, lt-or-ge, refuted}
 use Rattle.file_part.specs.Part.{Part}
 use Rattle.solid_faces.specs.Faces.{sameFace, firstOf, isNew, faceCount, facesOf, faceNumber, firstPolygon}
-use Rattle.solid_faces.specs.Kept.{from, Firsts, FaceNumbers, Faces}
+use Rattle.solid_faces.specs.Kept.{FaceNumbers, Faces}
+use Rattle.solid_faces.specs.Work.{from, Firsts}
 use Rattle.solid_faces.proofs.FaceLaws.{first-le, first-same, first-new, is-new, is-same, count-start, count-new, count-old, count-grows, count-passes, new-apart, number-new, number-first, number-below, number-same, first-polygon-new}
 
 -- ---- the face of the next polygon

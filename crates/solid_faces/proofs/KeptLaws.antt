@@ -19,7 +19,8 @@ use Rattle.math.specs.Vector as vector
 use Rattle.file_part.specs.Part.{Part}
 use Rattle.solid_polygon.specs.declared.polygon.Plane.{Plane}
 use Rattle.solid_faces.specs.Faces.{faceNumber, polygonArea, polygonPlane, faceAreaTo, faceArea}
-use Rattle.solid_faces.specs.Kept.{KeptAreas, AreasTo, FaceAreas, planeAt, putPlane, KeptPlanes}
+use Rattle.solid_faces.specs.Kept.{KeptAreas, FaceAreas, planeAt, KeptPlanes}
+use Rattle.solid_faces.specs.Work.{AreasTo, putPlane}
 
 -- ---- the area of each polygon
 pub areas-none : (t : Part) (l : List Float) → KeptAreas t 0 l

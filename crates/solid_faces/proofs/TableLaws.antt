@@ -10,15 +10,14 @@ use lib.Seq.{getD-set-same, getD-set-other}
 use Rattle.num_float.proofs.Tests.{refuted}
 use Rattle.list_laws.proofs.Fill.{filled-at}
 use Rattle.solid_keys.specs.Pair.{above}
-use Rattle.solid_keys.specs.Columns.{Heads, Next}
+use Rattle.solid_keys.specs.Work.{Heads, Next}
 use Rattle.solid_keys.proofs.CountLaws.{above-fails}
 use Rattle.solid_keys.proofs.ChainLaws.{heads-start, heads-more, next-more}
 use Rattle.solid_keys.proofs.WalkLaws.{Walk, walk-start, walk-on, walk-falls, walk-end}
 use Rattle.file_part.specs.declared.read.FaceId.{FaceId}
 use Rattle.file_part.specs.Part.{Part}
 use Rattle.solid_faces.specs.Faces.{sameFace, isNew, faceNumber, firstPolygon}
-use Rattle.solid_faces.specs.Kept.{from, Firsts}
-use Rattle.solid_faces.specs.Work.{idSlot, faceSlot, Table}
+use Rattle.solid_faces.specs.Work.{from, Firsts, idSlot, faceSlot, Table}
 use Rattle.solid_faces.proofs.FaceLaws.{same-is, number-new, first-polygon-new}
 use Rattle.solid_faces.proofs.FirstLaws.{firsts-none, firsts-as, firsts-old, firsts-new, firsts-missed, number-next, from-early, from-found}
 

@@ -1,7 +1,7 @@
 // Refusals 8 and 9 of a part file, after those of the crate below.
 ghost use mathlib.Core.Path.{_≡_};
 ghost use Rattle.file_part.specs.Part.{partOf};
-ghost use Rattle.file_ok.specs.Verdict.{Readable};
+ghost use Rattle.file_ok.specs.Work.{Readable};
 ghost use Rattle.solid_faces.specs.Faces.{someFlat, bodyVerdict};
 use crate::faces::few_faces;
 use file_ok::verdict::Verdict;

@@ -7,12 +7,13 @@ use lib.ListN.{length, getD}
 use Rattle.file_part.specs.Layout.{vertexCount, polygonCount, entryAt}
 use Rattle.file_part.specs.declared.read.FaceId.{FaceId}
 use Rattle.file_part.specs.Part.{faceAt, partOf}
-use Rattle.file_ok.specs.Verdict.{Readable}
+use Rattle.file_ok.specs.Work.{Readable}
 use Rattle.file_part.proofs.PartLaws.{part-polygons, part-face}
 use Rattle.file_ok.proofs.ReadableLaws.{readable-length, readable-counts}
 use Rattle.solid_faces.specs.Faces.{facesOf, firstPolygon}
 use Rattle.solid_faces.proofs.BodyLaws.{checked-readable, checked-faces}
-use Rattle.solid_ids.specs.Ids.{idOf, KnownFaces}
+use Rattle.solid_ids.specs.Ids.{idOf}
+use Rattle.solid_ids.specs.Work.{KnownFaces}
 use Rattle.solid_ids.proofs.IdLaws.{first-below}
 
 pub known-readable : {file faces : List ℕ} → KnownFaces file faces → Readable file

@@ -1,14 +1,10 @@
 -- The ids of faces, in the order in which the Rust's sorted maps hold them. Definitions only.
-use mathlib.Core.Path.{_≡_}
 use mathlib.Core.Bool.{Bool, _&&_, _||_}
-use mathlib.Core.List.{List}
 use Prim.Native.Nat.{ℕ}
 use lib.Dec.{eqb, ltb}
-use lib.ListN.{length}
 use Rattle.file_part.specs.declared.read.FaceId.{FaceId}
-use Rattle.file_part.specs.Part.{Part, partOf}
-use Rattle.solid_faces.specs.Faces.{Checked, firstPolygon}
-use Rattle.solid_faces.specs.Kept.{faceCells, Faces}
+use Rattle.file_part.specs.Part.{Part}
+use Rattle.solid_faces.specs.Faces.{firstPolygon}
 
 -- ids as the Rust orders them: by feature, then by index
 unfoldable pub idBefore : FaceId → FaceId → Bool
@@ -21,9 +17,3 @@ idOf t f = t .polygon (firstPolygon t f) .face
 -- face g has a lower id than face h
 unfoldable pub faceBefore : Part → ℕ → ℕ → Bool
 faceBefore t g h = idBefore (idOf t g) (idOf t h)
-
--- an accepted file and its faces; there is room for the first polygons of 1,024 faces
-pub record KnownFaces (file faces : List ℕ) : Type 0 where
-  pub checked : Checked file
-  pub known : Faces (partOf file) faces
-  pub long : length faces ≡ faceCells (partOf file .polygons)

@@ -5,7 +5,7 @@ use Prim.Native.Nat.{ℕ, _+_, _*_, _<_, _≤_}
 use native.Mathlib.Omega.{arith}
 use lib.ListN.{length, set}
 use lib.Seq.{getD-set-same, getD-set-other}
-use Rattle.solid_keys.specs.Columns.{col, Kept}
+use Rattle.solid_keys.specs.Work.{col, Kept}
 
 -- `new` is v at i, and elsewhere as `old`
 pub record Put (old : ℕ → ℕ) (i v : ℕ) (new : ℕ → ℕ) : Type 0 where

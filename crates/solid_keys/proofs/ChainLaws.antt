@@ -11,7 +11,7 @@ use lib.ListN.{length, set, length-set}
 use borrow.Author.Count.{below-none}
 use borrow.Author.Tests.{eq-eqb, ne-eqb}
 use Rattle.solid_keys.specs.Pair.{above}
-use Rattle.solid_keys.specs.Columns.{col, sideCells, Kept, slot, Heads, Next, Before}
+use Rattle.solid_keys.specs.Work.{col, sideCells, Kept, slot, Heads, Next, Before}
 use Rattle.solid_keys.proofs.CountLaws.{equal-or-not, newest}
 use Rattle.solid_keys.proofs.CellLaws.{Put, put-cell, keep-cell, put-after, put-before, kept-none, kept-set}
 use Rattle.solid_keys.proofs.ColumnLaws.{side-cells-kept, slots-kept}

@@ -10,7 +10,7 @@ use lib.ListN.{length}
 use borrow.Author.Tests.{eq-eqb, eqb-true}
 use Rattle.num_float.proofs.Tests.{and-left, and-right, and-false-left}
 use Rattle.solid_keys.specs.Pair.{above, sideKey, pairOf}
-use Rattle.solid_keys.specs.Columns.{col, sameCells, liveCells, sideCells, Sides, Kept, mix, slot, Before, Paired}
+use Rattle.solid_keys.specs.Work.{col, sameCells, liveCells, sideCells, Sides, Kept, mix, slot, Before, Paired}
 use Rattle.solid_keys.proofs.CountLaws.{above-zero}
 use Rattle.solid_keys.proofs.CellLaws.{kept-join, kept-fewer, kept-column}
 use Rattle.solid_keys.proofs.SideLaws.{Alike, side-match, sides-alike, side-self}

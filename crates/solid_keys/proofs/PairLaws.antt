@@ -10,7 +10,7 @@ use borrow.Author.Tests.{ne-eqb, eqb-true, leb-true, lt-leb}
 use Rattle.num_float.proofs.Tests.{refuted, contrary, same-test, and-right, and-false-right, lt-or-ge}
 use Rattle.list_laws.specs.Below.{countBelow}
 use Rattle.solid_keys.specs.Pair.{above, isFirst, pairAmong, pairOf}
-use Rattle.solid_keys.specs.Columns.{Before, Out}
+use Rattle.solid_keys.specs.Work.{Before, Out}
 use Rattle.solid_keys.proofs.CountLaws.{equal-or-not, newest, above-le, above-passes, above-fails, none-counted, count-found, none-passes, counts-agree, above-same}
 use Rattle.solid_keys.proofs.SideLaws.{Alike}
 use Rattle.solid_keys.proofs.CellLaws.{Put}

@@ -7,7 +7,7 @@ use native.Mathlib.Omega.{arith}
 use lib.Dec.{eqb}
 use lib.ListN.{set, length-set}
 use Rattle.solid_keys.specs.Pair.{above}
-use Rattle.solid_keys.specs.Columns.{col, liveCells, sideCells, Sides, Kept, Before, Out, Step}
+use Rattle.solid_keys.specs.Work.{col, liveCells, sideCells, Sides, Kept, Before, Out, Step}
 use Rattle.solid_keys.proofs.CellLaws.{put-cell, kept-none, kept-set}
 use Rattle.solid_keys.proofs.ColumnLaws.{side-cells-alike, side-cells-self}
 use Rattle.solid_keys.proofs.PairLaws.{before-le, before-is, own-out, two-out, third-out}

@@ -6,7 +6,7 @@ use native.Mathlib.Omega.{arith}
 use lib.Dec.{eqb}
 use borrow.Author.Tests.{eq-eqb, eqb-true}
 use Rattle.solid_keys.specs.Pair.{above}
-use Rattle.solid_keys.specs.Columns.{Next}
+use Rattle.solid_keys.specs.Work.{Next}
 use Rattle.solid_keys.proofs.CountLaws.{above-le, above-passes, above-skip}
 
 -- what is known at the link t on the way down from n in the chain of the slot h, where `same` tells what is looked for

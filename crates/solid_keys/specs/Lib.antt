@@ -1,3 +1,3 @@
 -- Sides of one key, and what the columns hold that find them.
 pub mod Pair
-pub mod Columns
+pub mod Work

@@ -5,7 +5,7 @@ ghost use Prim.Native.Nat.{ℕ, _+_, _*_, _<_, _≤_};
 ghost use lib.Dec.{eqb};
 ghost use lib.ListN.{length};
 ghost use Rattle.solid_keys.specs.Pair.{above, bothEnds, samePair};
-ghost use Rattle.solid_keys.specs.Columns.{col, sameCells, liveCells, sideCells, Sides, Kept, mix, slot, Next, Before, Out, Step, Paired};
+ghost use Rattle.solid_keys.specs.Work.{col, sameCells, liveCells, sideCells, Sides, Kept, mix, slot, Next, Before, Out, Step, Paired};
 
 // A u32 as a u64.
 fn wide(x: u32) -> u64

@@ -12,8 +12,8 @@ use borrow.Author.Tests.{eq-eqb, eqb-true}
 use Rattle.num_float.proofs.Tests.{same-test, cond-has}
 use Rattle.list_laws.specs.Region.{part}
 use Rattle.list_laws.proofs.Regions.{part-length, part-place}
-use Rattle.list_groups.specs.Groups.{joined, overPairs, unlessEmpty, withKey, itemsOf, overGroups, pairKey}
-use Rattle.list_groups.specs.Order.{WholeIs, KeysPut, Keyed, Sorted, RunEnds, ofItems}
+use Rattle.list_groups.specs.Groups.{joined, overPairs, unlessEmpty, itemsOf}
+use Rattle.list_groups.specs.Work.{withKey, overGroups, pairKey, WholeIs, KeysPut, Keyed, Sorted, RunEnds, ofItems}
 use Rattle.list_groups.proofs.KeyLaws.{keys-keyed}
 use Rattle.list_groups.proofs.Strict.{mem-place}
 use Rattle.list_groups.proofs.Flat.{joined-same}
@@ -26,7 +26,7 @@ use Rattle.solid_ranks.specs.Ranks.{rankOf, faceOfRank}
 use Rattle.solid_ranks.proofs.RankLaws.{rank-below, face-of-rank, rank-of-face}
 use Rattle.solid_pairs.specs.declared.FacePair.{FacePair}
 use Rattle.solid_pairs.specs.Pairs.{lower, higher, itemsBetween, overFacePairs}
-use Rattle.solid_pairs.specs.Kept.{PairIs, lowRank, highRank, itemKey, PairsSorted, PairsTo}
+use Rattle.solid_pairs.specs.Work.{PairIs, lowRank, highRank, itemKey, PairsSorted, PairsTo}
 
 -- ---- the faces of a pair
 pub lower-below : (t : Part) (f g : ℕ) → f < facesOf t → g < facesOf t → lower t f g < facesOf t

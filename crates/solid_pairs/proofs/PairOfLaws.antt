@@ -9,7 +9,7 @@ use lib.Dec.{ltb}
 use lib.Ieee.{Float}
 use lib.ListN.{length, getD}
 use borrow.Author.Tests.{lt-ltb, le-ltb}
-use Rattle.list_groups.specs.Order.{WholeIs}
+use Rattle.list_groups.specs.Work.{WholeIs}
 use Rattle.list_groups.proofs.Pairs.{pair-below}
 use Rattle.file_part.specs.Part.{Part, partOf}
 use Rattle.solid_faces.specs.Faces.{facesOf}
@@ -23,7 +23,7 @@ use Rattle.solid_ranks.specs.Ranks.{rankOf}
 use Rattle.solid_ranks.specs.Kept.{Ranked}
 use Rattle.solid_ranks.proofs.RankLaws.{before-rank, rank-below}
 use Rattle.solid_pairs.specs.Pairs.{lower, higher}
-use Rattle.solid_pairs.specs.Kept.{PairIs}
+use Rattle.solid_pairs.specs.Work.{PairIs}
 
 pub key-small : (a b n : ℕ) → a < n → b < n → n ≤ 1024 → (a * n ≤ 1048576) × (a * n + b < 1048576)
 key-small a b n h k l =

@@ -1,3 +1,3 @@
 -- Items by their pairs of faces.
 pub mod Pairs
-pub mod Kept
+pub mod Work

@@ -2,12 +2,12 @@
 ghost use mathlib.Core.Path.{_≡_};
 ghost use Prim.Native.Nat.{_+_, _*_, _≤_, _<_};
 ghost use lib.ListN.{length};
-ghost use Rattle.list_groups.specs.Order.{WholeIs};
+ghost use Rattle.list_groups.specs.Work.{WholeIs};
 ghost use Rattle.file_part.specs.Part.{partOf};
 ghost use Rattle.solid_faces.specs.Faces.{facesOf};
 ghost use Rattle.scratch.specs.Standing.{Placed};
 ghost use Rattle.solid_ranks.specs.Kept.{Ranked};
-ghost use Rattle.solid_pairs.specs.Kept.{PairIs};
+ghost use Rattle.solid_pairs.specs.Work.{PairIs};
 use list_cells::cell;
 use scratch::regions::Regions;
 

@@ -13,7 +13,8 @@ use Rattle.math.specs.declared.Vec3.{Vec3}
 use Rattle.math.specs.Vector.{zeroVec, plus, minus, crossOf, lengthOf}
 use Rattle.math.specs.Vector as vector
 use Rattle.file_field.specs.Field.{vecAt}
-use Rattle.solid_polygon.specs.Polygon.{cornerAt, half, after, newellStep, newellTo, newellOf, cornersTo, triangleArea, areaTo, areaOf}
+use Rattle.solid_polygon.specs.Polygon.{half, after, newellStep, newellTo, newellOf, cornersTo, triangleArea, areaTo, areaOf}
+use Rattle.solid_polygon.specs.Work.{cornerAt}
 
 -- ---- the corner after a corner
 pub after-last : (n k : ℕ) → k + 1 ≡ n → 0 ≡ after n k

@@ -1,18 +1,12 @@
 -- Sums over the corners of a polygon, in the Rust's order. Definitions only. A polygon's corners are a function c from their numbers, below n.
 use mathlib.Core.Bool.{cond}
-use mathlib.Core.List.{List}
-use Prim.Native.Nat.{ℕ, zero, suc, _+_, _-_, _*_}
+use Prim.Native.Nat.{ℕ, zero, suc, _+_, _-_}
 use lib.Dec.{eqb}
 use lib.IntN.{pos}
 use lib.Ieee.{Float, binary64, add, sub, mul, div, ofBits, ofInt}
 use Rattle.math.specs.declared.Vec3.{Vec3}
 use Rattle.math.specs.Vector.{vec, one, zeroVec, plus, minus, times, over, crossOf, lengthOf}
 use Rattle.math.specs.Vector as vector
-use Rattle.file_field.specs.Field.{vecAt}
-
--- the corners of the run that begins at vertex `first`
-unfoldable pub cornerAt : List ℕ → ℕ → ℕ → Vec3
-cornerAt s first k = vecAt s (24 * (first + k))
 
 -- the corner after corner k of n; after the last comes the first
 unfoldable pub after : ℕ → ℕ → ℕ

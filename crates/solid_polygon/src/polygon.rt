@@ -2,7 +2,8 @@
 ghost use mathlib.Core.Path.{_≡_};
 ghost use Prim.Native.Nat.{_+_, _*_, _≤_, _<_};
 ghost use lib.ListN.{length};
-ghost use Rattle.solid_polygon.specs.Polygon.{cornerAt, after, newellStep, newellOf, cornersTo, centroidOf, triangleArea, areaOf};
+ghost use Rattle.solid_polygon.specs.Polygon.{after, newellStep, newellOf, cornersTo, centroidOf, triangleArea, areaOf};
+ghost use Rattle.solid_polygon.specs.Work.{cornerAt};
 ghost use Rattle.solid_polygon.specs.Plane.{isFlat, planeOf};
 use file_part::read::vertex;
 use math::Vec3;

@@ -18,7 +18,8 @@ use Rattle.num_float.proofs.Within.{mul-within, held-small}
 use Rattle.num_real.specs.Rounding.{roundI64}
 use Rattle.num_real.proofs.RoundingLaws.{round-within}
 use Rattle.math.specs.declared.Vec3.{Vec3}
-use Rattle.solid_segments.specs.Key.{segmentScale, bodyScale, keyPart, sameInt, sameKey, fromZero}
+use Rattle.solid_segments.specs.Key.{segmentScale, bodyScale, keyPart, sameInt, sameKey}
+use Rattle.solid_segments.specs.Work.{fromZero}
 
 -- ---- equal whole numbers
 pub int-same : (a b : ℤ) → sameInt a b ≡ true → a ≡ b

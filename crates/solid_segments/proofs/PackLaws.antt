@@ -9,7 +9,7 @@ use lib.Seq.{getD-set-same, getD-set-other}
 use Rattle.num_float.proofs.Tests.{lt-or-ge}
 use Rattle.file_part.specs.Part.{Part}
 use Rattle.solid_segments.specs.Sides.{SharedSegments}
-use Rattle.solid_segments.specs.Stages.{PairedSides, Packed, PackedMore}
+use Rattle.solid_segments.specs.Work.{PairedSides, Packed, PackedMore}
 
 pub packed-none : (l : List ℕ) → Packed 0 l l
 packed-none l = record { ends = λ s h. absurd (omega (arith, h)); owners = λ s h. absurd (omega (arith, h)); pairs = λ s h. absurd (omega (arith, h)); rest = λ i h. refl; long = refl }

@@ -9,10 +9,10 @@ use Rattle.math.specs.Size.{VecWithin}
 use Rattle.file_field.specs.Field.{vecAt}
 use Rattle.file_part.specs.Layout.{vertexCount, polygonCount, entryAt}
 use Rattle.file_part.specs.Part.{firstAt, countAt, Part, partOf}
-use Rattle.file_ok.specs.Verdict.{Readable}
+use Rattle.file_ok.specs.Work.{Readable}
 use Rattle.file_ok.proofs.ReadableLaws.{readable-length, readable-counts, readable-run, readable-whole, readable-vertex}
 use Rattle.solid_segments.specs.Sides.{nextOf, toOf}
-use Rattle.solid_segments.specs.Stages.{sideRow, Lent, Placed, PlacedBelow, OwnsMore, startOf, RunAt, OwnsRun}
+use Rattle.solid_segments.specs.Work.{sideRow, Lent, Placed, PlacedBelow, OwnsMore, startOf, RunAt, OwnsRun}
 use Rattle.solid_keys.proofs.CountLaws.{newest}
 use Rattle.solid_keys.proofs.CellLaws.{put-cell, keep-cell}
 use Rattle.solid_segments.proofs.RunLaws.{first-start, next-start, start-inside, owner-is, to-is, to-inside}

@@ -6,8 +6,8 @@ use native.Mathlib.Omega.{arith}
 use lib.ListN.{length, set, length-set}
 use lib.Seq.{getD-set-same, getD-set-other}
 use Rattle.math.specs.declared.Vec3.{Vec3}
-use Rattle.solid_keys.specs.Columns.{col}
-use Rattle.solid_segments.specs.Stages.{cellOf, sideRow}
+use Rattle.solid_keys.specs.Work.{col}
+use Rattle.solid_segments.specs.Work.{cellOf, sideRow}
 
 module _ (w : Vec3) (mem : List ℕ) (s to : ℕ) where
   abbrev m0 : List ℕ

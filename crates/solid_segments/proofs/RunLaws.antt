@@ -14,10 +14,10 @@ use Rattle.list_laws.proofs.Below.{sum-none, sum-more, sum-within}
 use Rattle.file_part.specs.Layout.{vertexCount, polygonCount, entryAt}
 use Rattle.file_part.specs.Part.{countAt, polygonAt, Part, partOf}
 use Rattle.file_ok.specs.Rules.{runStart}
-use Rattle.file_ok.specs.Verdict.{Readable}
+use Rattle.file_ok.specs.Work.{Readable}
 use Rattle.file_ok.proofs.ReadableLaws.{readable-run, readable-whole}
-use Rattle.solid_segments.specs.Sides.{runEnd, ownerOf, nextOf, toOf, Owned}
-use Rattle.solid_segments.specs.Stages.{startOf}
+use Rattle.solid_segments.specs.Sides.{runEnd, ownerOf, nextOf, toOf}
+use Rattle.solid_segments.specs.Work.{Owned, startOf}
 use Rattle.solid_keys.proofs.CountLaws.{newest}
 
 -- ---- how many ends of runs that follow on are not above i: run p begins where those below it end

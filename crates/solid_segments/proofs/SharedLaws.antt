@@ -12,11 +12,11 @@ use Rattle.num_float.specs.Within.{Within}
 use Rattle.math.specs.Size.{VecWithin}
 use Rattle.file_part.specs.Part.{Part, partOf}
 use Rattle.file_ok.proofs.ReadableLaws.{readable-counts, readable-vertex}
-use Rattle.solid_segments.specs.Key.{segmentScale, keyPart, sameInt, sameKey, keyCell}
+use Rattle.solid_segments.specs.Key.{segmentScale, keyPart, sameInt, sameKey}
+use Rattle.solid_segments.specs.Work.{keyCell, SharedBy, FirstOfMany, cellOf, Lent, PlacedBelow, OwnsMore, PairedSides}
 use Rattle.solid_keys.specs.Pair.{pairOf}
-use Rattle.solid_keys.specs.Columns.{col, sameCells, sideCells, Sides, Paired}
-use Rattle.solid_segments.specs.Sides.{toOf, sameEnd, live, sameSide, SharedBy, AloneIn, FirstOfMany, SharedSegments}
-use Rattle.solid_segments.specs.Stages.{cellOf, Lent, PlacedBelow, OwnsMore, PairedSides}
+use Rattle.solid_keys.specs.Work.{col, sameCells, sideCells, Sides, Paired}
+use Rattle.solid_segments.specs.Sides.{toOf, sameEnd, live, sameSide, AloneIn, SharedSegments}
 use Rattle.solid_keys.proofs.CellLaws.{kept-column}
 use Rattle.solid_keys.proofs.SideLaws.{Alike, side-same, sides-alike, side-self}
 use Rattle.solid_keys.proofs.MeaningLaws.{shared-pair, pair-shared, alone-pair, pair-alone, many-pair, pair-many}

@@ -1,7 +1,6 @@
 -- Keys of coordinates, which say where two vertices are at one place for dfm.rs. Definitions only.
 -- The scale is a parameter: segments have one, and bodies another.
 use mathlib.Core.Bool.{Bool, false, _&&_}
-use Prim.Native.Nat.{ℕ, suc, _+_, _-_}
 use lib.Dec.{eqb}
 use lib.IntN.{ℤ, pos, negsuc}
 use lib.Ieee.{Float, binary64, mul, ofBits}
@@ -33,12 +32,3 @@ sameKey scale a b =
     sameInt (keyPart scale (a .x)) (keyPart scale (b .x))
     && sameInt (keyPart scale (a .y)) (keyPart scale (b .y))
     && sameInt (keyPart scale (a .z)) (keyPart scale (b .z))
-
--- a whole number of at most b in size, counted from -b on
-unfoldable pub fromZero : ℕ → ℤ → ℕ
-fromZero b (pos n) = b + n
-fromZero b (negsuc n) = b - suc n
-
--- a coordinate's key as the columns hold it
-unfoldable pub keyCell : Float → ℕ → Float → ℕ
-keyCell scale b x = fromZero b (keyPart scale x)

@@ -10,7 +10,7 @@ use lib.ListN.{length, getD}
 use Rattle.list_laws.specs.Below.{sumBelow}
 use Rattle.file_part.specs.Part.{Part}
 use Rattle.solid_segments.specs.Key.{segmentScale, sameKey}
-use Rattle.solid_keys.specs.Pair.{isLive, sideKey, pairOf, Shared, Alone, Many}
+use Rattle.solid_keys.specs.Pair.{isLive, sideKey, pairOf, Alone}
 
 -- the vertex after the run of polygon p
 unfoldable pub runEnd : Part → ℕ → ℕ
@@ -28,13 +28,6 @@ nextOf first end s = cond (eqb (s + 1) end) first (s + 1)
 unfoldable pub toOf : Part → ℕ → ℕ
 toOf t s = nextOf (t .polygon (ownerOf t s) .first) (runEnd t (ownerOf t s)) s
 
--- side s lies in the run of a polygon, and ends at a vertex
-pub record Owned (t : Part) (s : ℕ) : Type 0 where
-  pub low : ownerOf t s < t .polygons
-  pub from : t .polygon (ownerOf t s) .first ≤ s
-  pub before : s < runEnd t (ownerOf t s)
-  pub to : toOf t s < t .vertices
-
 -- vertices a and b have one key
 unfoldable pub sameEnd : Part → ℕ → ℕ → Bool
 sameEnd t a b = sameKey segmentScale (t .vertex a) (t .vertex b)
@@ -47,21 +40,9 @@ live t s = isLive (sameEnd t) (toOf t) s
 unfoldable pub sameSide : Part → ℕ → ℕ → Bool
 sameSide t u s = sideKey (sameEnd t) (toOf t) u s
 
--- "A shared segment": sides s and u, and no third, have one key, and s comes first
-abbrev pub SharedBy : Part → ℕ → ℕ → Type 0
-SharedBy t s u = Shared (sameSide t) (t .vertices) s u
-
 -- a side whose key no other side has
 abbrev pub AloneIn : Part → ℕ → Type 0
 AloneIn t s = Alone (sameSide t) (t .vertices) s
-
--- the first side of a key that more than two sides have
-abbrev pub FirstOfMany : Part → ℕ → Type 0
-FirstOfMany t s = Many (sameSide t) (t .vertices) s
-
--- the cells that `shared_segments` is lent for v sides: eight each while they are paired
-abbrev pub sideCells : ℕ → ℕ
-sideCells v = 8 * v
 
 -- What `shared_segments` leaves, three cells for each side s of a part: the vertex where it ends, its polygon, and the pair of s. The
 -- shared segments in the order "in which their key first appears, by polygon, then side" are the s in rising order with a pair of s + 2

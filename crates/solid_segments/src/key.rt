@@ -1,7 +1,8 @@
 // The key of a coordinate, as the columns hold it.
 ghost use mathlib.Core.Path.{_≡_};
 ghost use Rattle.num_float.specs.Within.{Within};
-ghost use Rattle.solid_segments.specs.Key.{segmentScale, keyCell};
+ghost use Rattle.solid_segments.specs.Key.{segmentScale};
+ghost use Rattle.solid_segments.specs.Work.{keyCell};
 use num_real::rounding::round_i64;
 
 // From 0 to 2 * 10^8, for a coordinate of an accepted part.

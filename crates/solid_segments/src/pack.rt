@@ -1,7 +1,7 @@
 // The cells of the sides moved together, once the sides are paired: three cells a side are read from then on, and five are free in one piece.
 ghost use Prim.Native.Nat.{_+_, _*_, _≤_, _<_};
 ghost use lib.ListN.{length};
-ghost use Rattle.solid_segments.specs.Stages.{PackedMore, Packed};
+ghost use Rattle.solid_segments.specs.Work.{PackedMore, Packed};
 
 // Side s; those before it are packed.
 fn pack_side(mem: &mut [u32], s: usize)

@@ -19,11 +19,12 @@ use Rattle.math.specs.Vector as vector
 use Rattle.math.specs.Size.{VecWithin}
 use Rattle.file_part.specs.Layout.{vertexCount, polygonCount, entryAt}
 use Rattle.file_part.specs.Part.{partOf, polygonAt, firstAt, countAt}
-use Rattle.file_ok.specs.Verdict.{Readable}
+use Rattle.file_ok.specs.Work.{Readable}
 use Rattle.file_ok.proofs.ReadableLaws.{readable-counts, readable-run, readable-vertex, readable-index}
 use Rattle.solid_polygon.specs.Polygon.{half, triangleArea, areaTo, areaOf}
 use Rattle.solid_faces.specs.Faces.{faceNumber, polygonCorner, polygonArea, faceAreaTo, faceArea}
-use Rattle.solid_sizes.specs.Sizes.{Near, Area}
+use Rattle.solid_sizes.specs.Sizes.{Area}
+use Rattle.solid_sizes.specs.Work.{Near}
 use Rattle.solid_sizes.proofs.Vectors.{minus-within, cross-within, vec-length-within, vec-length-nonneg}
 
 -- ---- sums of areas

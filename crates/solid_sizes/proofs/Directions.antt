@@ -21,7 +21,8 @@ use Rattle.file_field.specs.Direction.{Directed}
 use Rattle.file_part.specs.declared.read.SurfaceKind.the-variants.{Plane, Cylinder, Revolved, Other}
 use Rattle.file_part.specs.Part.{surfaceOf, surfaceAt}
 use Rattle.solid_polygon.specs.Polygon.{half}
-use Rattle.solid_sizes.specs.Sizes.{VecFits, SurfaceFits}
+use Rattle.solid_sizes.specs.Sizes.{VecFits}
+use Rattle.solid_sizes.specs.Work.{SurfaceFits}
 use Rattle.solid_sizes.proofs.Vectors.{square-finite}
 
 -- ---- what is read from the file is an f64

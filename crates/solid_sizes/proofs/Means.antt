@@ -13,8 +13,9 @@ use lib.Ieee.Back.{round-whole}
 use lib.Ieee.Fits.{down-pos, div-fits, ofInt-fits}
 use lib.Ieee.Scale.{finite}
 use lib.Ieee.Positive.{num, den, den-pos}
-use Rattle.num_float.specs.Units.{units, gap}
-use Rattle.num_float.specs.Within.{Within, Held}
+use Rattle.num_float.specs.Units.{units}
+use Rattle.num_float.specs.Work.{gap, Held}
+use Rattle.num_float.specs.Within.{Within}
 use Rattle.num_float.proofs.Rounding.{value-cross, round-within}
 use Rattle.num_float.proofs.Within.{held-small, ratio-within, div-within, whole-within, whole-beyond}
 use Rattle.num_float.proofs.Units.{units-are}

@@ -14,7 +14,8 @@ use lib.Ieee.Fits.{down-pos, round-fits, neg-fits}
 use lib.Ieee.Scale.{finite, round-same}
 use lib.Ieee.Positive.{num, den, den-pos}
 use Rattle.num_float.specs.Units.{units}
-use Rattle.num_float.specs.Within.{Within, Beyond, Held}
+use Rattle.num_float.specs.Within.{Within, Beyond}
+use Rattle.num_float.specs.Work.{Held}
 use Rattle.num_float.proofs.Tests.{contrary}
 use Rattle.num_float.proofs.NonNegative.{scaled-zero, minus-size-le}
 use Rattle.num_float.proofs.Order.{lt-le}

@@ -25,7 +25,8 @@ use Rattle.solid_polygon.specs.Polygon.{after, newellStep, newellTo, newellOf, 
 use Rattle.solid_polygon.specs.Plane.{e-14, isFlat, normalOf, planeOf}
 use Rattle.solid_faces.specs.Faces.{polygonCorner, polygonFlat, polygonPlane, Checked}
 use Rattle.solid_faces.proofs.BodyLaws.{checked-readable, checked-flat}
-use Rattle.solid_sizes.specs.Sizes.{Near, VecFits, PlaneWithin}
+use Rattle.solid_sizes.specs.Sizes.{VecFits, PlaneWithin}
+use Rattle.solid_sizes.specs.Work.{Near}
 use Rattle.solid_sizes.proofs.Vectors.{plus-within, dot-within, wider-vec, square-finite}
 use Rattle.solid_sizes.proofs.Means.{mean-within, mean-times-within}
 use Rattle.solid_sizes.proofs.Areas.{readable-near}

@@ -4,7 +4,8 @@ use lib.Dec.{T, lit<, lit≤}
 use lib.Ieee.{Float, binary64, sub, mul}
 use lib.Ieee.Scale.{finite}
 use Rattle.num_float.specs.Sign.{NonNeg}
-use Rattle.num_float.specs.Within.{Within, Held}
+use Rattle.num_float.specs.Within.{Within}
+use Rattle.num_float.specs.Work.{Held}
 use Rattle.num_float.proofs.Within.{held-small, wider, add-within, sub-within, mul-within}
 use Rattle.num_norm.specs.Length.{squared}
 use Rattle.num_norm.proofs.Length.{length-of, length-within, squared-within}

@@ -1,2 +1,3 @@
 -- What the laws on sizes speak of.
 pub mod Sizes
+pub mod Work

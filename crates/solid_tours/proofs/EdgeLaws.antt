@@ -21,7 +21,7 @@ use Rattle.list_groups.proofs.Strict.{Strict, strict-append, place-mem}
 use Rattle.list_groups.proofs.Flat.{joined-mem, mem-joined}
 use Rattle.file_part.specs.Part.{Part, partOf}
 use Rattle.file_part.proofs.PartLaws.{part-vertices}
-use Rattle.file_ok.specs.Verdict.{Readable}
+use Rattle.file_ok.specs.Work.{Readable}
 use Rattle.solid_faces.specs.Faces.{facesOf}
 use Rattle.solid_edges.specs.Edges.{isEdgeOf, otherFace, isBetween}
 use Rattle.solid_edges.specs.Neighbours.{firstBetween}

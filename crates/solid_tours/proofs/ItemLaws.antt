@@ -9,16 +9,18 @@ use lib.Dec.{eqb}
 use lib.ListN.{getD}
 use borrow.Author.Tests.{eq-eqb, ne-eqb, eqb-true, not-true}
 use Rattle.num_float.proofs.Tests.{contrary, same-test, and-true, and-left, and-right, cond-has, lt-or-ge}
-use Rattle.list_groups.specs.Groups.{passing, withKey, pairKey}
+use Rattle.list_groups.specs.Groups.{passing}
+use Rattle.list_groups.specs.Work.{withKey, pairKey}
 use Rattle.list_groups.proofs.Strict.{place-mem}
 use Rattle.list_groups.proofs.Order.{mem-with}
 use Rattle.list_groups.proofs.Pairs.{passing-same, pair-is, pair-below}
 use Rattle.file_part.specs.Layout.{vertexCount}
 use Rattle.file_part.specs.Part.{Part, partOf}
 use Rattle.file_part.proofs.PartLaws.{part-vertices}
-use Rattle.file_ok.specs.Verdict.{Readable}
+use Rattle.file_ok.specs.Work.{Readable}
 use Rattle.solid_faces.specs.Faces.{facesOf}
-use Rattle.solid_edges.specs.Edges.{faceOfSide, faceBeyond, isEdge, isEdgeOf, otherFace, isBetween, leadsTo, isTwo, pairIn}
+use Rattle.solid_edges.specs.Edges.{faceOfSide, faceBeyond, isEdge, isEdgeOf, otherFace, isBetween, isTwo, pairIn}
+use Rattle.solid_edges.specs.Work.{leadsTo}
 use Rattle.solid_edges.proofs.ScanLaws.{face-below}
 use Rattle.solid_edges.proofs.EdgeLaws.{beyond-below, other-below}
 use Rattle.solid_ranks.specs.Ranks.{rankOf, faceOfRank}

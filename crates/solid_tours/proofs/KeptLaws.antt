@@ -7,7 +7,7 @@ use lib.ListN.{getD}
 use lib.Ieee.{Float, nan}
 use Rattle.list_laws.specs.Region.{Outside}
 use Rattle.list_laws.proofs.Outside.{outside-part, outside-after}
-use Rattle.list_groups.specs.Order.{Keyed, Grouped}
+use Rattle.list_groups.specs.Work.{Keyed, Grouped}
 use Rattle.file_part.specs.Part.{partOf}
 use Rattle.solid_faces.specs.Faces.{facesOf}
 use Rattle.solid_distance.proofs.KeptLaws.{segment-same}

@@ -26,7 +26,8 @@ use Rattle.list_groups.specs.Groups.{passing}
 use Rattle.file_part.specs.Part.{Part}
 use Rattle.solid_segments.specs.Sides.{toOf}
 use Rattle.solid_distance.specs.Segment.{nearestOn}
-use Rattle.solid_edges.specs.Distance.{sideSquare, distanceTo}
+use Rattle.solid_edges.specs.Distance.{distanceTo}
+use Rattle.solid_edges.specs.Work.{sideSquare}
 use Rattle.solid_edges.proofs.DistanceLaws.{LeastSquare, least-none, least-near, least-past}
 use Rattle.solid_tours.specs.Tours.{leastSquare, leastDistance}
 use Rattle.solid_tours.proofs.Passing.{passing-zero, passing-step, mem-passing, passing-mem}

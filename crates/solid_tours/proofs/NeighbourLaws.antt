@@ -14,12 +14,13 @@ use Rattle.list_groups.proofs.Strict.{Strict, strict-append}
 use Rattle.list_groups.proofs.Flat.{joined-none, joined-suc, joined-mem, mem-joined}
 use Rattle.file_part.specs.Part.{Part, partOf}
 use Rattle.file_part.proofs.PartLaws.{part-vertices}
-use Rattle.file_ok.specs.Verdict.{Readable}
+use Rattle.file_ok.specs.Work.{Readable}
 use Rattle.solid_faces.specs.Faces.{facesOf}
 use Rattle.solid_ids.specs.Ids.{faceBefore}
 use Rattle.solid_ids.proofs.IdLaws.{face-irreflexive, face-transitive}
 use Rattle.solid_edges.specs.Edges.{isEdgeOf, otherFace}
-use Rattle.solid_edges.specs.Neighbours.{isPast, isWanted, nextNeighbour, neighbourAt}
+use Rattle.solid_edges.specs.Neighbours.{isPast, isWanted, nextNeighbour}
+use Rattle.solid_edges.specs.Work.{neighbourAt}
 use Rattle.solid_edges.proofs.EdgeLaws.{other-below}
 use Rattle.solid_edges.proofs.NextLaws.{none-next, is-next}
 use Rattle.solid_ranks.specs.Ranks.{rankOf, faceOfRank}

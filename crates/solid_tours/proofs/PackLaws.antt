@@ -12,7 +12,7 @@ use Rattle.num_float.proofs.Tests.{lt-or-ge}
 use Rattle.math.specs.declared.Vec3.{Vec3}
 use Rattle.list_laws.specs.Region.{Outside}
 use Rattle.list_laws.proofs.Outside.{outside-none, outside-then, outside-wide, outside-part}
-use Rattle.list_groups.specs.Order.{Keyed}
+use Rattle.list_groups.specs.Work.{Keyed}
 use Rattle.file_field.specs.Field.{vecAt}
 use Rattle.file_part.specs.Part.{Part, partOf}
 use Rattle.file_part.proofs.PartLaws.{part-vertex}
@@ -22,7 +22,7 @@ use Rattle.solid_distance.specs.declared.kept.Segment.{Segment}
 use Rattle.solid_distance.specs.Kept.{segmentOf, squareTo, segmentAt, putSegment}
 use Rattle.solid_distance.proofs.KeptLaws.{square-is, put-same, put-kept, segment-same}
 use Rattle.solid_reach.specs.Reach.{Holds, reachAt}
-use Rattle.solid_edges.specs.Distance.{sideSquare}
+use Rattle.solid_edges.specs.Work.{sideSquare}
 use Rattle.scratch.specs.declared.regions.Regions.{Regions}
 use Rattle.scratch.specs.Standing.{Standing}
 use Rattle.scratch.proofs.StandingLaws.{standing-kept}

@@ -13,14 +13,14 @@ use lib.Seq.{drop-at, take-at, length-take-le}
 use borrow.Author.Tests.{ltb-true, ltb-false}
 use Rattle.list_laws.specs.Region.{part}
 use Rattle.list_laws.proofs.Regions.{part-place}
-use Rattle.list_groups.specs.Groups.{joined, unlessEmpty, withKey, inKeyOrder, startOf}
-use Rattle.list_groups.specs.Order.{WholeIs, Grouped}
+use Rattle.list_groups.specs.Groups.{joined, unlessEmpty}
+use Rattle.list_groups.specs.Work.{withKey, inKeyOrder, startOf, WholeIs, Grouped}
 use Rattle.list_groups.proofs.Whole.{whole-lt}
 use Rattle.list_groups.proofs.Flat.{joined-none, joined-suc, joined-add, joined-same}
 use Rattle.list_groups.proofs.Order.{order-long, start-mono, start-le}
 use Rattle.list_groups.proofs.Walks.{front-part, place-group, place-item}
 use Rattle.file_part.specs.Part.{Part, partOf}
-use Rattle.file_ok.specs.Verdict.{Readable}
+use Rattle.file_ok.specs.Work.{Readable}
 use Rattle.solid_faces.specs.Faces.{facesOf}
 use Rattle.solid_faces.proofs.BodyLaws.{checked-readable, checked-faces}
 use Rattle.solid_faces.proofs.CountLaws.{few-faces}

@@ -16,8 +16,8 @@ use Rattle.num_float.proofs.Tests.{lt-or-ge}
 use Rattle.list_laws.specs.Region.{part, Outside}
 use Rattle.list_laws.proofs.Regions.{part-length, part-put}
 use Rattle.list_laws.proofs.Outside.{outside-none, outside-then, outside-wide, outside-two, outside-put}
-use Rattle.list_groups.specs.Groups.{passing, pairKey}
-use Rattle.list_groups.specs.Order.{WholeIs, Keyed, Grouped, Sorted}
+use Rattle.list_groups.specs.Groups.{passing}
+use Rattle.list_groups.specs.Work.{pairKey, WholeIs, Keyed, Grouped, Sorted}
 use Rattle.list_groups.proofs.KeyLaws.{keys-keyed}
 use Rattle.file_part.specs.Layout.{vertexCount}
 use Rattle.file_part.specs.Part.{Part, partOf}
@@ -25,8 +25,8 @@ use Rattle.solid_faces.specs.Faces.{facesOf}
 use Rattle.solid_faces.proofs.BodyLaws.{checked-readable, checked-faces}
 use Rattle.solid_faces.proofs.CountLaws.{few-faces}
 use Rattle.solid_edges.specs.declared.edge.Edge.{Edge}
-use Rattle.solid_edges.specs.Edges.{faceOfSide, faceBeyond, isEdge, EdgeIs}
-use Rattle.solid_edges.specs.Scan.{Lent}
+use Rattle.solid_edges.specs.Edges.{faceOfSide, faceBeyond, isEdge}
+use Rattle.solid_edges.specs.Work.{EdgeIs, Lent}
 use Rattle.solid_edges.proofs.EdgeLaws.{near-few, beyond-few}
 use Rattle.scratch.specs.declared.regions.Regions.{Regions}
 use Rattle.scratch.specs.Regions.{Laid}

@@ -16,21 +16,21 @@ use Rattle.num_root.specs.Root.{root}
 use Rattle.math.specs.declared.Vec3.{Vec3}
 use Rattle.list_laws.specs.Region.{part}
 use Rattle.list_laws.proofs.Regions.{part-length, part-place, part-more, part-first}
-use Rattle.list_sort.specs.Sorted.{Numbered}
-use Rattle.list_groups.specs.Groups.{joined, unlessEmpty, withKey, startOf}
-use Rattle.list_groups.specs.Order.{RunEnds}
+use Rattle.list_sort.specs.Work.{Numbered}
+use Rattle.list_groups.specs.Groups.{joined, unlessEmpty}
+use Rattle.list_groups.specs.Work.{withKey, startOf, RunEnds}
 use Rattle.list_groups.proofs.Flat.{joined-none, joined-suc, joined-skip}
 use Rattle.list_groups.proofs.Strict.{place-mem}
 use Rattle.list_groups.proofs.Order.{start-le, start-suc}
 use Rattle.list_groups.proofs.Grouping.{keyed-lt}
 use Rattle.list_groups.proofs.Walks.{empty-between}
 use Rattle.file_part.specs.Part.{Part, partOf}
-use Rattle.file_ok.specs.Verdict.{Readable}
+use Rattle.file_ok.specs.Work.{Readable}
 use Rattle.solid_faces.specs.Faces.{facesOf}
 use Rattle.solid_distance.specs.declared.kept.Segment.{Segment}
 use Rattle.solid_distance.specs.Kept.{squareTo}
-use Rattle.solid_edges.specs.Distance.{sideSquare}
-use Rattle.solid_edges.specs.Edges.{isEdgeOf, isBetween, leadsTo}
+use Rattle.solid_edges.specs.Edges.{isEdgeOf, isBetween}
+use Rattle.solid_edges.specs.Work.{sideSquare, leadsTo}
 use Rattle.solid_edges.specs.Neighbours.{firstBetween}
 use Rattle.scratch.specs.declared.regions.Regions.{Regions}
 use Rattle.solid_ranks.specs.Ranks.{rankOf, faceOfRank}

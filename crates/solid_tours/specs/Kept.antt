@@ -7,8 +7,8 @@ use lib.Dec.{eqb, ltb}
 use lib.Ieee.{Float, nan}
 use lib.ListN.{length, getD}
 use Rattle.list_laws.specs.Region.{part, Outside}
-use Rattle.list_groups.specs.Groups.{joined, unlessEmpty, passing, pairKey, startOf}
-use Rattle.list_groups.specs.Order.{Keyed, Grouped}
+use Rattle.list_groups.specs.Groups.{joined, unlessEmpty, passing}
+use Rattle.list_groups.specs.Work.{pairKey, startOf, Keyed, Grouped}
 use Rattle.file_part.specs.Part.{Part, partOf}
 use Rattle.solid_faces.specs.Faces.{facesOf}
 use Rattle.solid_segments.specs.Sides.{toOf}

@@ -13,7 +13,7 @@ use Rattle.file_part.specs.Part.{Part}
 use Rattle.solid_faces.specs.Faces.{facesOf}
 use Rattle.solid_ranks.specs.Ranks.{faceOfRank}
 use Rattle.solid_edges.specs.Edges.{isBetween}
-use Rattle.solid_edges.specs.Distance.{sideSquare}
+use Rattle.solid_edges.specs.Work.{sideSquare}
 
 -- the edges between faces f and g, in the order of the shared segments
 unfoldable pub edgesBetween : Part → ℕ → ℕ → List ℕ

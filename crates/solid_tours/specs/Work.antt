@@ -9,7 +9,7 @@ use lib.ListN.{length, getD}
 use Rattle.math.specs.declared.Vec3.{Vec3}
 use Rattle.list_laws.specs.Region.{Outside}
 use Rattle.list_groups.specs.Groups.{passing}
-use Rattle.list_groups.specs.Order.{WholeIs}
+use Rattle.list_groups.specs.Work.{WholeIs}
 use Rattle.file_part.specs.Part.{Part, partOf}
 use Rattle.solid_faces.specs.Faces.{facesOf}
 use Rattle.solid_distance.specs.Kept.{segmentAt}

@@ -4,7 +4,7 @@ ghost use mathlib.Core.Bool.{true};
 ghost use Prim.Native.Nat.{_+_, _*_, _≤_, _<_};
 ghost use lib.ListN.{length};
 ghost use Rattle.list_groups.specs.Groups.{passing};
-ghost use Rattle.list_groups.specs.Order.{WholeIs};
+ghost use Rattle.list_groups.specs.Work.{WholeIs};
 ghost use Rattle.file_part.specs.Part.{partOf};
 ghost use Rattle.solid_faces.specs.Faces.{facesOf};
 ghost use Rattle.solid_edges.specs.Edges.{isEdge};

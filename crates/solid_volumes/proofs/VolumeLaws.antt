@@ -16,7 +16,7 @@ use Rattle.math.specs.declared.Vec3.{Vec3}
 use Rattle.file_field.specs.Field.{vecAt}
 use Rattle.file_part.specs.Layout.{vertexCount, polygonCount, entryAt}
 use Rattle.file_part.specs.Part.{Part, polygonAt, firstAt, countAt, partOf}
-use Rattle.file_ok.specs.Verdict.{Readable}
+use Rattle.file_ok.specs.Work.{Readable}
 use Rattle.file_ok.proofs.ReadableLaws.{readable-length, readable-run}
 use Rattle.solid_bodies.specs.Body.{bodyOf, Labels}
 use Rattle.solid_bodies.proofs.BodyLaws.{label-known}

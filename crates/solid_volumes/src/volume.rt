@@ -5,7 +5,7 @@ ghost use lib.ListN.{length};
 ghost use Rattle.file_field.specs.Field.{vecAt};
 ghost use Rattle.file_part.specs.Layout.{polygonCount};
 ghost use Rattle.file_part.specs.Part.{firstAt, countAt, partOf};
-ghost use Rattle.file_ok.specs.Verdict.{Readable};
+ghost use Rattle.file_ok.specs.Work.{Readable};
 ghost use Rattle.solid_bodies.specs.Body.{Labels};
 ghost use Rattle.solid_volumes.specs.Volume.{pyramid, fan, Volumes};
 use file_part::read::entry_at;

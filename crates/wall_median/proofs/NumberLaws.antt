@@ -12,7 +12,8 @@ use Rattle.num_float.proofs.Tests.{lt-or-ge}
 use Rattle.list_laws.specs.Region.{part}
 use Rattle.list_laws.proofs.Regions.{part-length, part-place}
 use Rattle.list_laws.proofs.Outside.{outside-none, outside-then, outside-wide, outside-set}
-use Rattle.wall_median.specs.Rough.{numbersTo, NumbersPut}
+use Rattle.wall_median.specs.Rough.{numbersTo}
+use Rattle.wall_median.specs.Work.{NumbersPut}
 
 -- ---- one by one
 pub numbers-none : (at : ℕ) (l : List ℕ) → NumbersPut 0 at l l

@@ -13,7 +13,8 @@ use Rattle.list_laws.specs.Region.{part, Outside}
 use Rattle.list_laws.proofs.Regions.{part-length, part-place}
 use Rattle.list_laws.proofs.Outside.{outside-then, outside-wide, outside-put}
 use Rattle.list_sort.specs.Sorted.{keyOf}
-use Rattle.list_median.specs.Median.{Pairs, Median}
+use Rattle.list_median.specs.Median.{Median}
+use Rattle.list_median.specs.Work.{Pairs}
 use Rattle.file_part.specs.Part.{Part, partOf}
 use Rattle.solid_faces.specs.Faces.{Checked, polygonArea}
 use Rattle.scratch.specs.declared.regions.Regions.{Regions}
@@ -24,7 +25,8 @@ use Rattle.wall_samples.specs.Samples.{readingsOf}
 use Rattle.wall_samples.specs.Stored.{reading, Readings}
 use Rattle.wall_samples.proofs.ReadingLaws.{readings-most}
 use Rattle.measure_sizes.proofs.Readings.{reading-bounds}
-use Rattle.wall_median.specs.Rough.{thicknesses, areas, numbersTo, readingMedian, roughOf, NumbersPut}
+use Rattle.wall_median.specs.Rough.{thicknesses, areas, numbersTo, readingMedian, roughOf}
+use Rattle.wall_median.specs.Work.{NumbersPut}
 use Rattle.wall_median.proofs.NumberLaws.{numbers-place, numbers-taken}
 
 -- ---- the thickness and the area of each reading

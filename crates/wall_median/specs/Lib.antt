@@ -1,2 +1,3 @@
 -- The weighted median of the readings of a part.
 pub mod Rough
+pub mod Work

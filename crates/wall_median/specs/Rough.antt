@@ -1,10 +1,8 @@
 -- `rough` of dfm.rs's `sheet_metal`: the weighted median of all readings of a part. Definitions only.
-use mathlib.Core.Path.{_≡_}
 use mathlib.Core.List.{List, [], _∷_, _++_}
-use Prim.Native.Nat.{ℕ, zero, suc, _+_, _<_}
-use lib.ListN.{length, getD}
+use Prim.Native.Nat.{ℕ, zero, suc}
+use lib.ListN.{length}
 use lib.Ieee.{Float}
-use Rattle.list_laws.specs.Region.{Outside}
 use Rattle.file_part.specs.Part.{Part}
 use Rattle.solid_faces.specs.Faces.{polygonArea}
 use Rattle.list_median.specs.Median.{medianOf}
@@ -32,8 +30,3 @@ readingMedian t xs = medianOf (thicknesses (readingsOf t)) (areas t (readingsOf 
 -- of all
 unfoldable pub roughOf : Part → Float
 roughOf t = readingMedian t (numbersTo (length (readingsOf t)))
-
--- ---- the numbers below n stand from `at` on; all other cells are as they were
-pub record NumbersPut (n at : ℕ) (old new : List ℕ) : Type 0 where
-  pub each : (i : ℕ) → i < n → getD new (at + i) 0 ≡ i
-  pub kept : Outside 0 at (at + n) old new

@@ -7,7 +7,8 @@ ghost use Rattle.file_part.specs.Part.{partOf};
 ghost use Rattle.scratch.specs.Standing.{Standing};
 ghost use Rattle.wall_samples.specs.Samples.{readingsOf};
 ghost use Rattle.wall_samples.specs.Stored.{Readings};
-ghost use Rattle.wall_median.specs.Rough.{roughOf, NumbersPut};
+ghost use Rattle.wall_median.specs.Rough.{roughOf};
+ghost use Rattle.wall_median.specs.Work.{NumbersPut};
 use list_median::weighted_median;
 use scratch::regions::Regions;
 

@@ -9,8 +9,8 @@ use borrow.Rule.Slice.PartMut.{putMid}
 use Rattle.list_laws.specs.Region.{Outside}
 use Rattle.list_laws.proofs.Regions.{part-length, part-place, part-put}
 use Rattle.list_laws.proofs.Outside.{outside-wide, outside-put}
-use Rattle.list_sort.specs.Sorted.{Numbered}
-use Rattle.list_groups.specs.Order.{KeysPut, Sorted, RunEnds}
+use Rattle.list_sort.specs.Work.{Numbered}
+use Rattle.list_groups.specs.Work.{KeysPut, Sorted, RunEnds}
 use Rattle.file_part.specs.Part.{Part, partOf}
 use Rattle.solid_faces.specs.Faces.{facesOf, faceNumber}
 use Rattle.solid_faces.proofs.BodyLaws.{checked-faces}
@@ -22,15 +22,14 @@ use Rattle.solid_ranks.specs.Kept.{Ranked, SortsOnly}
 use Rattle.solid_ranks.proofs.KeptLaws.{sorts-only, only-standing, ranked-kept}
 use Rattle.solid_pairs.specs.declared.FacePair.{FacePair}
 use Rattle.solid_pairs.specs.Pairs.{lower, higher}
-use Rattle.solid_pairs.specs.Kept.{PairIs, itemKey, PairsSorted}
+use Rattle.solid_pairs.specs.Work.{PairIs, itemKey, PairsSorted}
 use Rattle.solid_pairs.proofs.PairLaws.{lower-below, higher-below, pairs-sorted, item-below}
 use Rattle.wall_samples.specs.Samples.{readingsOf}
 use Rattle.wall_samples.specs.Stored.{reading, Readings}
 use Rattle.wall_samples.proofs.ReadingLaws.{readings-inside, readings-most}
 use Rattle.wall_pairs.specs.declared.Counts.{Counts}
 use Rattle.wall_pairs.specs.Walls.{faceFrom, faceHit}
-use Rattle.wall_pairs.specs.Kept.{Counted, readingKeys, readingOrder, WallsOrdered, WallsPut, NextWallIs}
-use Rattle.wall_pairs.specs.Work.{FacesReady}
+use Rattle.wall_pairs.specs.Work.{Counted, readingKeys, readingOrder, WallsOrdered, WallsPut, NextWallIs, FacesReady}
 use Rattle.wall_pairs.proofs.KeptLaws.{readings-kept}
 use Rattle.wall_pairs.proofs.WallLaws.{walls-inside}
 

@@ -19,7 +19,7 @@ use Rattle.wall_samples.specs.Stored.{reading}
 use Rattle.wall_samples.proofs.ReadingLaws.{readings-inside}
 use Rattle.wall_pairs.specs.declared.NextWall.{NextWall}
 use Rattle.wall_pairs.specs.Walls.{faceFrom, faceHit, overWalls, leastFrom, leastOf}
-use Rattle.wall_pairs.specs.Kept.{readingKeys, readingOrder, WallsOrdered, WallsTo, NextWallIs}
+use Rattle.wall_pairs.specs.Work.{readingKeys, readingOrder, WallsOrdered, WallsTo, NextWallIs}
 
 -- the faces of a reading are faces of the part
 pub walls-inside : (t : Part) (s : ℕ) → s < length (readingsOf t) → (faceFrom t s < facesOf t) × (faceHit t s < facesOf t)

@@ -1,4 +1,3 @@
 -- The thickness readings by their pairs of faces.
 pub mod Walls
-pub mod Kept
 pub mod Work

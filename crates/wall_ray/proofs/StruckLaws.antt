@@ -16,15 +16,15 @@ use Rattle.math.specs.Vector.{dotOf}
 use Rattle.math.specs.Vector as vector
 use Rattle.file_part.specs.Layout.{vertexCount, polygonCount, entryAt}
 use Rattle.file_part.specs.Part.{Part, firstAt, countAt, polygonAt, partOf}
-use Rattle.file_ok.specs.Verdict.{Readable}
+use Rattle.file_ok.specs.Work.{Readable}
 use Rattle.file_ok.proofs.ReadableLaws.{readable-vertex, readable-index}
 use Rattle.solid_polygon.specs.declared.polygon.Plane.{Plane}
-use Rattle.solid_polygon.specs.Polygon.{cornerAt}
+use Rattle.solid_polygon.specs.Work.{cornerAt}
 use Rattle.solid_faces.specs.Faces.{polygonCorner, polygonPlane}
 use Rattle.solid_faces.proofs.BodyLaws.{run-room}
 use Rattle.solid_boxes.specs.Bounds.{hullOf, widened, e-6, padded, ownBox}
 use Rattle.wall_ray.specs.declared.strike.Ray.{Ray}
-use Rattle.wall_ray.specs.Corners.{Corners}
+use Rattle.wall_ray.specs.Work.{Corners}
 use Rattle.wall_ray.specs.Slab.{slabOf, reachedIn}
 use Rattle.wall_ray.specs.Strike.{e-12, isParallel, timeOf, pointOf, isWithin, hitTime, isInside, crosses, inverseOf, ownSpan, struck}
 use Rattle.wall_ray.proofs.SlabLaws.{reached-after}

@@ -1,5 +1,4 @@
 -- What a ray strikes first.
-pub mod Corners
 pub mod Slab
 pub mod Strike
 pub mod Nearest

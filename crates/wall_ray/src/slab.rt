@@ -2,7 +2,7 @@
 ghost use mathlib.Core.Path.{_≡_};
 ghost use Prim.Native.Nat.{_+_, _*_, _≤_, _<_};
 ghost use lib.ListN.{length};
-ghost use Rattle.solid_polygon.specs.Polygon.{cornerAt};
+ghost use Rattle.solid_polygon.specs.Work.{cornerAt};
 ghost use Rattle.solid_boxes.specs.Bounds.{hullOf, widened, e-6, padded};
 ghost use Rattle.wall_ray.specs.Slab.{meets, moved, slabOf, reachedIn};
 ghost use Rattle.wall_ray.specs.Strike.{inverseOf};

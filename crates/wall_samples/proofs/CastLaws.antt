@@ -12,7 +12,8 @@ use Rattle.math.specs.Vector.{one, plus, times, dotOf}
 use Rattle.file_part.specs.Layout.{vertexCount, entryAt}
 use Rattle.file_part.specs.Part.{Part, firstAt, countAt, polygonAt, partOf}
 use Rattle.solid_polygon.specs.declared.polygon.Plane.{Plane}
-use Rattle.solid_polygon.specs.Polygon.{half, cornerAt, centroidOf}
+use Rattle.solid_polygon.specs.Polygon.{half, centroidOf}
+use Rattle.solid_polygon.specs.Work.{cornerAt}
 use Rattle.solid_faces.specs.Faces.{polygonCorner, polygonPlane}
 use Rattle.solid_faces.specs.Kept.{planeAt}
 use Rattle.scratch.specs.declared.regions.Regions.{Regions}

@@ -23,7 +23,7 @@ use Rattle.scratch.specs.Standing.{Standing}
 use Rattle.scratch.proofs.StandingLaws.{placed-polygons, standing-kept}
 use Rattle.scratch.proofs.WordsLaws.{begins-at, link-at}
 use Rattle.wall_starts.specs.Starts.{totalArea, wanted, facePolygons, orderedPolygons, stepOf}
-use Rattle.wall_starts.specs.Kept.{Total, Negated, Along, AreaNumbers, Room, Ordered}
+use Rattle.wall_starts.specs.Work.{Total, Negated, Along, AreaNumbers, Room, Ordered}
 use Rattle.wall_starts.proofs.KeptLaws.{falling-kept, ordered-place}
 use Rattle.wall_starts.proofs.OrderLaws.{ordered-length, ordered-each}
 use Rattle.wall_samples.specs.declared.cast.Reading.{Reading}

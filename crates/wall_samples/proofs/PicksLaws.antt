@@ -18,7 +18,7 @@ use Rattle.wall_ray.specs.Nearest.{hitOf}
 use Rattle.wall_starts.specs.Starts.{wanted, facePolygons, orderedPolygons, stepOf}
 use Rattle.wall_starts.proofs.ShareLaws.{step-least}
 use Rattle.wall_starts.proofs.OrderLaws.{ordered-length, lengths-more, lengths-within}
-use Rattle.wall_starts.specs.Kept.{lengthsTo}
+use Rattle.wall_starts.specs.Work.{lengthsTo}
 use Rattle.wall_samples.specs.declared.cast.Reading.{Reading}
 use Rattle.wall_samples.specs.Samples.{rayOf, readingsFrom, picksTo, faceReadings, readingsTo}
 use Rattle.wall_samples.specs.Work.{backHit, taken}

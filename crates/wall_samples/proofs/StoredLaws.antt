@@ -17,7 +17,7 @@ use Rattle.scratch.specs.declared.regions.Regions.{Regions}
 use Rattle.scratch.specs.Regions.{Laid}
 use Rattle.scratch.specs.Standing.{Standing}
 use Rattle.scratch.proofs.StandingLaws.{standing-kept}
-use Rattle.wall_starts.specs.Kept.{KeptFalling}
+use Rattle.wall_starts.specs.Work.{KeptFalling}
 use Rattle.wall_samples.specs.declared.cast.Reading.{Reading}
 use Rattle.wall_samples.specs.Stored.{none, reading, Stored}
 use Rattle.wall_samples.specs.Work.{putPolygons, putMeasures, Added, Ready}

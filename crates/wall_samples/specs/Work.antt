@@ -11,7 +11,7 @@ use Rattle.scratch.specs.declared.regions.Regions.{Regions}
 use Rattle.scratch.specs.Standing.{Standing}
 use Rattle.wall_ray.specs.declared.strike.Hit.{Hit}
 use Rattle.wall_ray.specs.declared.strike.Hit.the-variants.{At, Nothing}
-use Rattle.wall_starts.specs.Kept.{KeptFalling}
+use Rattle.wall_starts.specs.Work.{KeptFalling}
 use Rattle.wall_samples.specs.declared.cast.Reading.{Reading}
 use Rattle.wall_samples.specs.Samples.{e-6, facesBack}
 use Rattle.wall_samples.specs.Stored.{Stored}

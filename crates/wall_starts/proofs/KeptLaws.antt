@@ -21,7 +21,7 @@ use Rattle.solid_faces.specs.Faces.{isNew, faceNumber, faceArea}
 use Rattle.solid_faces.specs.Kept.{Chain, KeptAreas, FaceAreas}
 use Rattle.solid_faces.proofs.ChainLaws.{fold-first, OnFace, on-first, on-next, on-fold}
 use Rattle.wall_starts.specs.Starts.{areasTo, totalArea, polygonsTo, facePolygons, orderedPolygons}
-use Rattle.wall_starts.specs.Kept.{Total, KeptFalling, Negated, Along, AreaNumbers, Room, Gathered, Ordered}
+use Rattle.wall_starts.specs.Work.{Total, KeptFalling, Negated, Along, AreaNumbers, Room, Gathered, Ordered}
 
 -- ---- the areas of the faces, added
 pub record TotalTo (l : List Float) (n : ℕ) (r : Float) : Type 0 where

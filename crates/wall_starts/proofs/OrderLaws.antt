@@ -18,14 +18,15 @@ use Rattle.list_laws.proofs.Count.{count-less}
 use Rattle.file_part.specs.Part.{Part}
 use Rattle.solid_faces.specs.Faces.{faceNumber, facesOf, polygonArea, firstPolygon}
 use Rattle.solid_faces.proofs.FaceLaws.{number-below, first-polygon-begins}
-use Rattle.list_sort.specs.Sorted.{keyOf, comes, occurs, Rising, NoNan, put, inOrder}
+use Rattle.list_sort.specs.Sorted.{keyOf, comes, occurs, Rising, put, inOrder}
+use Rattle.list_sort.specs.Work.{NoNan}
 use Rattle.list_sort.proofs.Comes.{after}
 use Rattle.list_sort.proofs.Counts.{each-first}
 use Rattle.list_sort.proofs.Only.{rising-far}
 use Rattle.list_sort.proofs.InOrder.{in-order-long, in-order-same, in-order-rising}
 use Rattle.list_sort.proofs.Falling.{neg-lt, neg-nan}
 use Rattle.wall_starts.specs.Starts.{polygonsTo, facePolygons, fallingTo, orderedPolygons}
-use Rattle.wall_starts.specs.Kept.{AreaNumbers, lengthsTo}
+use Rattle.wall_starts.specs.Work.{AreaNumbers, lengthsTo}
 use Rattle.wall_starts.proofs.PassingLaws.{passing, passing-count, passing-each, passing-rises}
 
 -- ---- keys that agree on the numbers below p give one order

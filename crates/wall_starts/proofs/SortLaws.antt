@@ -13,11 +13,12 @@ use Rattle.list_laws.proofs.Regions.{part-length, put-length, part-place, put-i
 use Rattle.list_laws.proofs.Outside.{outside-then, outside-wide, outside-put}
 use Rattle.file_part.specs.Part.{Part}
 use Rattle.solid_faces.specs.Faces.{faceNumber}
-use Rattle.list_sort.specs.Sorted.{keyOf, Numbered, NoNan, SortedBy, inOrder}
+use Rattle.list_sort.specs.Sorted.{keyOf, SortedBy, inOrder}
+use Rattle.list_sort.specs.Work.{Numbered, NoNan}
 use Rattle.list_sort.proofs.InOrder.{sorted-is}
 use Rattle.list_sort.proofs.Falling.{neg-nan}
 use Rattle.wall_starts.specs.Starts.{facePolygons, fallingTo, orderedPolygons}
-use Rattle.wall_starts.specs.Kept.{Along, KeptFalling, AreaNumbers, Room, Gathered, Ordered}
+use Rattle.wall_starts.specs.Work.{Along, KeptFalling, AreaNumbers, Room, Gathered, Ordered}
 use Rattle.wall_starts.proofs.OrderLaws.{face-each, falling-at, in-order-keys}
 
 module _ (keys : List Float) (old mid : List ℕ) (chain order p first n : ℕ) (room : Room old chain order p) (inside : p ≤ length keys)

@@ -1,3 +1,3 @@
 -- Which polygons of a face the rays start from.
 pub mod Starts
-pub mod Kept
+pub mod Work

@@ -3,7 +3,7 @@ ghost use mathlib.Core.Path.{_≡_};
 ghost use Prim.Native.Nat.{_+_, _≤_};
 ghost use lib.ListN.{length};
 ghost use Rattle.wall_starts.specs.Starts as starts;
-ghost use Rattle.wall_starts.specs.Kept.{Total, Negated, Room, Gathered, Ordered};
+ghost use Rattle.wall_starts.specs.Work.{Total, Negated, Room, Gathered, Ordered};
 use list_cells::wide;
 use list_sort::sort;
 use num_real::rounding::ceil_usize;

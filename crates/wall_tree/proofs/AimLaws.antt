@@ -7,17 +7,19 @@ use Prim.Native.Nat.{ℕ, _+_, _-_, _*_, _≤_}
 use native.Mathlib.Omega.{arith}
 use lib.ListN.{getD}
 use lib.Ieee.{Float, nan, fin, binary64, sub, mul, div, odd, ofBits, ofFields, lt, le, isNan}
-use Rattle.num_float.specs.Order.{lesser, greater}
+use Rattle.num_float.specs.Order.{lesser}
+use Rattle.num_float.specs.Work.{greater}
 use Rattle.num_float.specs.Units.{minus-sign}
 use Rattle.num_float.proofs.Tests.{contrary}
 use Rattle.num_float.proofs.Order.{le-trans, le-numbers, lt-numbers}
-use Rattle.num_order.specs.Factor.{NonZero}
+use Rattle.num_order.specs.Work.{NonZero}
 use Rattle.num_order.proofs.Sums.{sub-right}
 use Rattle.num_order.proofs.Products.{nonzero-up, nonzero-down, mul-number}
 use Rattle.math.specs.declared.Vec3.{Vec3}
 use Rattle.math.specs.Vector.{vec, zero}
 use Rattle.solid_boxes.specs.declared.bounds.Bounds.{Bounds}
-use Rattle.solid_boxes.specs.Bounds.{Holds, Fit, Tidy}
+use Rattle.solid_boxes.specs.Bounds.{Holds}
+use Rattle.solid_boxes.specs.Work.{Fit, Tidy}
 use Rattle.solid_boxes.specs.Tree.{boxAt}
 use Rattle.wall_ray.specs.declared.strike.Ray.{Ray}
 use Rattle.wall_tree.specs.declared.aim.Aim.{Aim}

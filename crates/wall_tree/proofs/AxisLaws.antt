@@ -7,10 +7,10 @@ use lib.Ieee.{Float, nan, inf, fin, binary64, sub, le, isNan}
 use lib.Ieee.Scale.{finite}
 use Rattle.num_float.specs.Units.{minus-sign}
 use Rattle.num_float.proofs.Order.{le-trans, le-refl-number}
-use Rattle.num_order.specs.Factor.{sided, NonZero}
+use Rattle.num_order.specs.Work.{sided, NonZero}
 use Rattle.num_order.proofs.Sums.{sub-le, sub-right, sub-number}
 use Rattle.num_order.proofs.Products.{mul-le, mul-number, edge-before, edge-after}
-use Rattle.solid_boxes.specs.Bounds.{Fit}
+use Rattle.solid_boxes.specs.Work.{Fit}
 use Rattle.wall_ray.specs.Slab.{meets, nearer, farther}
 
 -- where the stretch of an axis starts and ends; a NaN stands for the whole ray

@@ -4,7 +4,7 @@ use Prim.Native.Nat.{_≤_}
 use native.Mathlib.Omega.{arith}
 use lib.ListN.{length}
 use denote.Ref.{now}
-use Rattle.list_sort.specs.Sorted.{Numbered}
+use Rattle.list_sort.specs.Work.{Numbered}
 use Rattle.list_median.proofs.MedianLaws.{halfway-none, halfway-some, low-place, median-is, sorted-numbered}
 use Rattle.list_median.proofs.weighted_median.Statement.{statement}
 use Rattle.list_median.proofs.weighted_median.Tie as tie

@@ -5,7 +5,7 @@ use borrow.Author.Needs.{needs}
 use native.Mathlib.Omega.{arith}
 use lib.Bits.{and-le-r}
 use lib.Count.{leadingZeros}
-use Rattle.num_root.specs.Whole.{DigitsOf}
+use Rattle.num_root.specs.Work.{DigitsOf}
 use Rattle.num_root.proofs.Fields.{Lifted, lifted, lifted-shift, normal-root, subnormal-root}
 use Rattle.num_root.proofs.parts_of.Statement.{statement}
 use Rattle.num_root.proofs.parts_of.Tie as tie

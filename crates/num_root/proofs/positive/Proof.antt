@@ -4,7 +4,7 @@ use Prim.Native.Nat.{ℕ, _*_, _%_, _^_}
 use borrow.Author.Needs.{needs}
 use native.Mathlib.Omega.{arith}
 use lib.Bits.{bitAnd}
-use Rattle.num_root.specs.Whole.{Near}
+use Rattle.num_root.specs.Work.{Near}
 use Rattle.num_root.proofs.Exponent.{parity, scaled, shifted, small, pattern}
 use Rattle.num_root.proofs.positive.Statement.{statement}
 use Rattle.num_root.proofs.positive.Tie as tie

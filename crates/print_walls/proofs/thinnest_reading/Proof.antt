@@ -5,7 +5,7 @@ use Prim.Native.Nat.{_-_, _≤_}
 use native.Mathlib.Omega.{arith}
 use lib.Ieee.{nanBits}
 use Rattle.file_part.specs.Part.{partOf}
-use Rattle.wall_pairs.specs.Kept.{readingOrder}
+use Rattle.wall_pairs.specs.Work.{readingOrder}
 use Rattle.wall_pairs.proofs.StepLaws.{order-long}
 use Rattle.print_walls.proofs.ThinnestLaws.{thinnestTo, thinnest-start, thinnest-more, thinnest-end}
 use Rattle.print_walls.proofs.thinnest_reading.Statement.{statement}

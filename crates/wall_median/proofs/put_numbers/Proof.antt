@@ -2,7 +2,7 @@
 use borrow.Author.Needs.{needs}
 use Prim.Native.Nat.{_-_, _≤_}
 use native.Mathlib.Omega.{arith}
-use Rattle.wall_median.specs.Rough.{NumbersPut}
+use Rattle.wall_median.specs.Work.{NumbersPut}
 use Rattle.wall_median.proofs.NumberLaws.{numbers-none, numbers-more, numbers-all}
 use Rattle.wall_median.proofs.put_numbers.Statement.{statement}
 use Rattle.wall_median.proofs.put_numbers.Tie as tie

@@ -8,7 +8,7 @@ use denote.Ref.{now}
 use Rattle.list_laws.specs.Region.{part}
 use Rattle.file_part.specs.Part.{partOf}
 use Rattle.wall_pairs.specs.Walls.{leastOf}
-use Rattle.wall_pairs.specs.Kept.{readingOrder}
+use Rattle.wall_pairs.specs.Work.{readingOrder}
 use Rattle.wall_pairs.proofs.WallLaws.{least-none, least-more, least-end}
 use Rattle.wall_pairs.proofs.StepLaws.{order-long}
 use Rattle.wall_pairs.proofs.least.Statement.{statement}

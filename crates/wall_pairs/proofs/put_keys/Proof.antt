@@ -2,11 +2,11 @@
 use borrow.Author.Needs.{needs}
 use Prim.Native.Nat.{_-_, _≤_}
 use native.Mathlib.Omega.{arith}
-use Rattle.list_groups.specs.Order.{KeysPut}
+use Rattle.list_groups.specs.Work.{KeysPut}
 use Rattle.list_groups.proofs.KeyLaws.{keys-none, keys-more, keys-all}
 use Rattle.file_part.specs.Part.{partOf}
 use denote.Ref.{now}
-use Rattle.solid_pairs.specs.Kept.{itemKey}
+use Rattle.solid_pairs.specs.Work.{itemKey}
 use Rattle.wall_pairs.specs.Walls.{faceFrom, faceHit}
 use Rattle.solid_pairs.proofs.PairLaws.{pair-key}
 use Rattle.wall_pairs.proofs.StepLaws.{keys-room}

@@ -3,7 +3,7 @@ use borrow.Author.Needs.{needs}
 use Prim.Native.Nat.{_+_, _-_, _≤_, _<_}
 use native.Mathlib.Omega.{arith}
 use lib.ListN.{length}
-use Rattle.wall_starts.specs.Kept.{Negated}
+use Rattle.wall_starts.specs.Work.{Negated}
 use Rattle.wall_starts.proofs.KeptLaws.{negated-none, negated-more, negated-all}
 use Rattle.wall_starts.proofs.put_falling.Statement.{statement}
 use Rattle.wall_starts.proofs.put_falling.Tie as tie

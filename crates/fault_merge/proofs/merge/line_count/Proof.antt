@@ -2,7 +2,7 @@
 use mathlib.Core.Path.{_≡_, ap, _∙_}
 use Prim.Native.Nat.{_+_, _≤_, _-_}
 use native.Mathlib.Nat.{le-antisymm}
-use Rattle.fault_merge.specs.Merged.{leaders}
+use Rattle.fault_merge.specs.Work.{leaders}
 use Rattle.fault_merge.proofs.CountLaws.{leaders-none, leaders-more, leaders-le}
 use native.Mathlib.Omega.{arith}
 use Rattle.fault_merge.proofs.merge.line_count.Statement.{statement}

@@ -5,7 +5,7 @@ use Prim.Native.Nat.{_≤_}
 use native.Mathlib.Omega.{arith}
 use Rattle.file_job.specs.declared.Process.{Process}
 use Rattle.file_job.specs.declared.Process.the-variants.{CncMachining, SheetMetal, Fdm, Sla, Sls}
-use Rattle.file_job.specs.Job.{isPrinting}
+use Rattle.file_job.specs.Work.{isPrinting}
 use Rattle.file_job.proofs.Places.{place, first-two, last-three}
 use Rattle.file_job.proofs.Process.is_printing.Statement.{statement}
 use Rattle.file_job.proofs.Process.is_printing.Tie as tie

@@ -2,7 +2,7 @@
 use borrow.Author.Needs.{needs}
 use native.Mathlib.Omega.{arith}
 use lib.ListN.{length-set}
-use Rattle.report_faces.specs.Links.{Low}
+use Rattle.report_faces.specs.Work.{Low}
 use Rattle.fault_merge.proofs.RecallLaws.{front-none, front-set}
 use Rattle.report_faces.proofs.LinkLaws.{link-own, link-other, label-low}
 use Rattle.report_faces.proofs.links.link.Statement.{statement}

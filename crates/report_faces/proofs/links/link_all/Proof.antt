@@ -4,7 +4,7 @@ use Prim.Native.Nat.{_+_, _-_, _≤_, _<_}
 use native.Mathlib.Omega.{arith}
 use lib.ListN.{length}
 use Rattle.fault_merge.specs.Work.{Front}
-use Rattle.report_faces.specs.Links.{Linking}
+use Rattle.report_faces.specs.Work.{Linking}
 use Rattle.fault_merge.proofs.RecallLaws.{front-none, front-then}
 use Rattle.report_faces.proofs.LinkLaws.{linking-at}
 use Rattle.report_faces.proofs.links.link_all.Statement.{statement}

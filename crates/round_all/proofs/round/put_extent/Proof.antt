@@ -5,7 +5,7 @@ use Prim.Native.Nat.{ℕ}
 use denote.Ref.{now}
 use Rattle.file_part.specs.Part.{partOf}
 use Rattle.round_frame.specs.Frame.{measureOf}
-use Rattle.round_frame.specs.Measure.{putMeasure}
+use Rattle.round_frame.specs.Work.{putMeasure}
 use Rattle.round_frame.specs.Polygons.{extentTo}
 use Rattle.round_all.proofs.round.put_extent.Statement.{statement}
 use Rattle.round_all.proofs.round.put_extent.Tie as tie

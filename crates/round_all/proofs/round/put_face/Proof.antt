@@ -3,7 +3,7 @@ use borrow.Author.Needs.{needs}
 use mathlib.Core.Path.{sym, subst}
 use denote.Ref.{now}
 use Rattle.solid_faces.proofs.BodyLaws.{checked-readable}
-use Rattle.round_frame.specs.Frame.{Central}
+use Rattle.round_frame.specs.Work.{Central}
 use Rattle.round_all.proofs.FrameLaws.{face-central}
 use Rattle.round_all.proofs.SurfaceLaws.{round-is, frame-is, round-none}
 use Rattle.round_all.proofs.PutLaws.{face-low, face-cylinder, face-none}

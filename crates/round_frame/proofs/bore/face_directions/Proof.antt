@@ -7,7 +7,7 @@ use Rattle.solid_faces.proofs.BodyLaws.{readable-long}
 use Rattle.solid_faces.proofs.ChainLaws.{OnFace, on-first, on-next, on-rises}
 use Rattle.file_ok.specs.Rules.{runStart}
 use Rattle.round_frame.specs.Polygons.{directionsTo}
-use Rattle.round_frame.specs.Bore.{DirectionsPut}
+use Rattle.round_frame.specs.Work.{DirectionsPut}
 use Rattle.round_frame.proofs.RunLaws.{polygon-low}
 use Rattle.round_frame.proofs.BoreLaws.{polygons-none, polygon-next, polygons-all}
 use native.Mathlib.Omega.{arith}

@@ -2,7 +2,7 @@
 use borrow.Author.Needs.{needs}
 use mathlib.Core.Path.{_≡_}
 use Rattle.math.specs.Vector.{minus, dotOf}
-use Rattle.round_hole.specs.Cells.{Packable}
+use Rattle.round_hole.specs.Work.{Packable}
 use Rattle.round_frame.proofs.FrameLaws.{vertex-packable}
 use Rattle.round_frame.proofs.BoreLaws.{vertex-none, vertex-put}
 use Rattle.round_frame.proofs.bore.put_directions.Statement.{statement}

@@ -6,10 +6,10 @@ use native.Mathlib.Omega.{arith}
 use denote.Ref.{now}
 use Rattle.file_part.specs.Layout.{vertexCount}
 use Rattle.file_ok.proofs.ReadableLaws.{readable-counts, readable-vertex-room}
-use Rattle.solid_polygon.specs.Polygon.{cornerAt}
-use Rattle.round_hole.specs.Cells.{directionsIn}
+use Rattle.solid_polygon.specs.Work.{cornerAt}
+use Rattle.round_hole.specs.Work.{directionsIn}
 use Rattle.round_frame.specs.Frame.{runDirections}
-use Rattle.round_frame.specs.Bore.{DirectionsPut}
+use Rattle.round_frame.specs.Work.{DirectionsPut}
 use Rattle.round_frame.proofs.BoreLaws.{run-none, run-more, run-all, corner-within}
 use Rattle.round_frame.proofs.bore.run_directions.Statement.{statement}
 use Rattle.round_frame.proofs.bore.run_directions.Tie as tie

@@ -3,7 +3,7 @@ use borrow.Author.Needs.{needs}
 use mathlib.Core.Path.{_≡_}
 use Prim.Native.Nat.{_-_, _≤_}
 use native.Mathlib.Omega.{arith}
-use Rattle.solid_polygon.specs.Polygon.{cornerAt}
+use Rattle.solid_polygon.specs.Work.{cornerAt}
 use Rattle.round_frame.specs.Frame.{runExtent}
 use Rattle.round_frame.proofs.RunLaws.{extent-none, extent-more, extent-all}
 use Rattle.round_frame.proofs.extent.run_extent.Statement.{statement}

@@ -3,7 +3,7 @@ use borrow.Author.Needs.{needs}
 use mathlib.Core.Path.{refl}
 use native.Mathlib.Omega.{arith}
 use lib.ListN.{length-set}
-use Rattle.round_frame.specs.Measure.{putMeasure}
+use Rattle.round_frame.specs.Work.{putMeasure}
 use Rattle.round_frame.proofs.measure.put_measure.Statement.{statement}
 use Rattle.round_frame.proofs.measure.put_measure.Tie as tie
 

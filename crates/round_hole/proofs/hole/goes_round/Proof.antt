@@ -6,7 +6,7 @@ use native.Mathlib.Omega.{arith}
 use borrow.Author.Needs.{needs}
 use borrow.Author.Tests.{not-true, not-false}
 use Rattle.round_hole.specs.Direction.{allFollowed}
-use Rattle.round_hole.specs.Cells.{directionsIn}
+use Rattle.round_hole.specs.Work.{directionsIn}
 use Rattle.round_hole.proofs.RoundLaws.{round-none, round-more, round-empty, round-fails, round-all}
 use Rattle.round_hole.proofs.hole.goes_round.Statement.{statement}
 use Rattle.round_hole.proofs.hole.goes_round.Tie as tie

@@ -2,7 +2,7 @@
 use Prim.Native.Nat.{_-_, _≤_}
 use native.Mathlib.Omega.{arith}
 use borrow.Author.Needs.{needs}
-use Rattle.round_hole.specs.Cells.{None}
+use Rattle.round_hole.specs.Work.{None}
 use Rattle.round_hole.proofs.RoundLaws.{none-start, none-more, none-all, some-here}
 use Rattle.round_hole.proofs.hole.some_between.Statement.{statement}
 use Rattle.round_hole.proofs.hole.some_between.Tie as tie

@@ -8,7 +8,7 @@ use Rattle.math.specs.Vector.{zero}
 use Rattle.file_part.specs.Part.{partOf}
 use Rattle.scratch.proofs.StandingLaws.{placed-vertices}
 use Rattle.rule_corners.specs.Corners.{lengthFrom}
-use Rattle.rule_corners.specs.Kept.{cornerOrder}
+use Rattle.rule_corners.specs.Work.{cornerOrder}
 use Rattle.rule_corners.proofs.corner.total_length.Statement.{statement}
 use Rattle.rule_corners.proofs.corner.total_length.Tie as tie
 

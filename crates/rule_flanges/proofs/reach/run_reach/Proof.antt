@@ -2,7 +2,7 @@
 use borrow.Author.Needs.{needs}
 use mathlib.Core.Path.{_≡_}
 use Prim.Native.Nat.{_-_, _≤_}
-use Rattle.solid_polygon.specs.Polygon.{cornerAt}
+use Rattle.solid_polygon.specs.Work.{cornerAt}
 use Rattle.rule_flanges.specs.Flanges.{runReach}
 use Rattle.rule_flanges.proofs.ReachLaws.{reach-none, reach-more, reach-all}
 use native.Mathlib.Omega.{arith}

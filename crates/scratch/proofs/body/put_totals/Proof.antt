@@ -10,7 +10,7 @@ use Rattle.list_laws.proofs.Regions.{part-length}
 use Rattle.list_laws.proofs.Outside.{outside-none, outside-then}
 use Rattle.file_part.specs.Part.{partOf}
 use Rattle.solid_faces.specs.Faces.{faceNumber}
-use Rattle.solid_faces.specs.Kept.{AreasTo}
+use Rattle.solid_faces.specs.Work.{AreasTo}
 use Rattle.solid_faces.proofs.BodyLaws.{checked-number}
 use Rattle.solid_faces.proofs.KeptLaws.{sums-all}
 use Rattle.scratch.proofs.StandingLaws.{placed-polygons}

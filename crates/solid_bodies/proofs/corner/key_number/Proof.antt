@@ -4,7 +4,8 @@ use Prim.Native.Nat.{_≤_}
 use lib.IntN.{natAbs}
 use lib.Dec.{lit<}
 use borrow.Author.Needs.{needs}
-use Rattle.solid_segments.specs.Key.{bodyScale, keyPart, fromZero, keyCell}
+use Rattle.solid_segments.specs.Key.{bodyScale, keyPart}
+use Rattle.solid_segments.specs.Work.{fromZero, keyCell}
 use Rattle.solid_segments.proofs.KeyLaws.{body-key, rounded-small, sum-fits, cast-fits, cast-is}
 use Rattle.solid_bodies.proofs.corner.key_number.Statement.{statement}
 use Rattle.solid_bodies.proofs.corner.key_number.Tie as tie

@@ -4,7 +4,7 @@ use native.Mathlib.Omega.{arith}
 use native.Mathlib.Nat.{le-antisymm}
 use mathlib.Core.Path.{_∙_, subst}
 use Rattle.file_part.specs.Part.{partOf}
-use Rattle.solid_bodies.specs.Corner.{Keyed}
+use Rattle.solid_bodies.specs.Work.{Keyed}
 use Rattle.solid_bodies.proofs.CornerLaws.{keyed-none, keyed-more}
 use Rattle.solid_bodies.proofs.corner.put_keys.Statement.{statement}
 use Rattle.solid_bodies.proofs.corner.put_keys.Tie as tie

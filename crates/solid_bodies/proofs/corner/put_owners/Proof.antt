@@ -10,7 +10,7 @@ use Rattle.file_part.specs.Part.{partOf}
 use Rattle.file_ok.specs.Rules.{runStart}
 use Rattle.file_ok.proofs.PolygonLaws.{start-none}
 use Rattle.file_ok.proofs.ReadableLaws.{readable-length, readable-counts}
-use Rattle.solid_bodies.specs.Corner.{Owned}
+use Rattle.solid_bodies.specs.Work.{Owned}
 use Rattle.solid_bodies.proofs.CornerLaws.{run-end, owned-none, owned-more, owned-all}
 use Rattle.solid_bodies.proofs.corner.put_owners.Statement.{statement}
 use Rattle.solid_bodies.proofs.corner.put_owners.Tie as tie

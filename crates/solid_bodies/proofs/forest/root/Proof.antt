@@ -4,7 +4,7 @@ use native.Mathlib.Omega.{arith}
 use mathlib.Core.Path.{_≡_, sym, _∙_}
 use lib.ListN.{length, getD, length-set}
 use borrow.Author.Needs.{needs}
-use Rattle.solid_bodies.specs.Forest.{Walked}
+use Rattle.solid_bodies.specs.Work.Forest.{Walked}
 use Rattle.solid_bodies.proofs.ForestLaws.{walk-start, walk-step, up-below, over-low}
 use Rattle.solid_bodies.proofs.forest.root.Statement.{statement}
 use Rattle.solid_bodies.proofs.forest.root.Tie as tie

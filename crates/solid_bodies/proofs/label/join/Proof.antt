@@ -3,7 +3,7 @@ use Prim.Native.Nat.{_-_, _≤_}
 use native.Mathlib.Omega.{arith}
 use mathlib.Core.Path.{refl, sym, _∙_}
 use lib.Seq.{length-take-le}
-use Rattle.solid_bodies.specs.Table.{Memory, Scanned, Kept}
+use Rattle.solid_bodies.specs.Work.{Memory, Scanned, Kept}
 use Rattle.solid_bodies.proofs.StepLaws.{kept-then, memory-kept, step-end}
 use Rattle.solid_bodies.proofs.label.join.Statement.{statement}
 use Rattle.solid_bodies.proofs.label.join.Tie as tie

@@ -6,9 +6,9 @@ use mathlib.Core.List.{List}
 use lib.ListN.{length, take}
 use lib.Seq.{length-take-le}
 use borrow.Author.Needs.{needs}
-use Rattle.solid_bodies.specs.Forest.{Taken}
+use Rattle.solid_bodies.specs.Work.Forest.{Taken}
 use Rattle.list_laws.specs.Region.{part}
-use Rattle.solid_bodies.specs.Table.{keyAt}
+use Rattle.solid_bodies.specs.Work.{keyAt}
 use Rattle.solid_bodies.proofs.TableLaws.{slot-in}
 use Rattle.solid_bodies.proofs.StepLaws.{step-turn, table-long}
 use Rattle.solid_bodies.proofs.label.turn.Statement.{statement}

@@ -3,7 +3,7 @@ use Prim.Native.Nat.{ℕ, _<_}
 use native.Mathlib.Omega.{arith}
 use mathlib.Core.Path.{sym, subst}
 use borrow.Author.Needs.{needs}
-use Rattle.solid_bodies.specs.Table.{keyAt, cornersOf}
+use Rattle.solid_bodies.specs.Work.{keyAt, cornersOf}
 use Rattle.solid_bodies.proofs.TableLaws.{Seek, key-same, key-other, slot-in, seek-begin, seek-turn, seek-falls, seek-hit, seek-end}
 use Rattle.solid_bodies.proofs.table.find.Statement.{statement}
 use Rattle.solid_bodies.proofs.table.find.Tie as tie

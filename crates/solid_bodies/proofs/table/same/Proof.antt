@@ -1,7 +1,7 @@
 -- `solid_bodies::table::same` meets its contract.
 use mathlib.Core.Path.{refl}
 use borrow.Author.Needs.{needs}
-use Rattle.solid_bodies.specs.Table.{eqKey}
+use Rattle.solid_bodies.specs.Work.{eqKey}
 use Rattle.solid_bodies.proofs.table.same.Statement.{statement}
 use Rattle.solid_bodies.proofs.table.same.Tie as tie
 

@@ -3,7 +3,7 @@ use Prim.Native.Nat.{_+_, _*_, _<_, _^_}
 use native.Mathlib.Omega.{arith}
 use mathlib.Core.Path.{refl}
 use borrow.Author.Needs.{needs}
-use Rattle.solid_bodies.specs.Table.{slotOf, keyAt}
+use Rattle.solid_bodies.specs.Work.{slotOf, keyAt}
 use Rattle.solid_bodies.proofs.table.slot.Statement.{statement}
 use Rattle.solid_bodies.proofs.table.slot.Tie as tie
 

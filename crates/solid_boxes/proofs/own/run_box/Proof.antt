@@ -4,7 +4,7 @@ use mathlib.Core.Path.{_≡_}
 use Prim.Native.Nat.{_≤_, _-_}
 use native.Mathlib.Nat.{le-antisymm}
 use native.Mathlib.Omega.{arith}
-use Rattle.solid_polygon.specs.Polygon.{cornerAt}
+use Rattle.solid_polygon.specs.Work.{cornerAt}
 use Rattle.solid_boxes.specs.Bounds.{hullOf}
 use Rattle.solid_boxes.proofs.OwnLaws.{hull-none, hull-more, hull-all}
 use Rattle.solid_boxes.proofs.own.run_box.Statement.{statement}

@@ -3,7 +3,7 @@ use borrow.Author.Needs.{needs}
 use mathlib.Core.Path.{refl}
 use native.Mathlib.Omega.{arith}
 use lib.ListN.{length-set}
-use Rattle.solid_faces.specs.Kept.{putPlane}
+use Rattle.solid_faces.specs.Work.{putPlane}
 use Rattle.solid_faces.proofs.areas.put_plane.Statement.{statement}
 use Rattle.solid_faces.proofs.areas.put_plane.Tie as tie
 

@@ -6,7 +6,7 @@ use native.Mathlib.Omega.{arith}
 use lib.ListN.{length}
 use denote.Ref.{now}
 use Rattle.file_part.specs.Part.{partOf}
-use Rattle.file_ok.specs.Verdict.{Readable}
+use Rattle.file_ok.specs.Work.{Readable}
 use Rattle.solid_faces.specs.Kept.{KeptPlanes}
 use Rattle.solid_faces.proofs.BodyLaws.{readable-long, EntryRoom, entry-room, RunRoom, run-room, run-plane, checked-readable}
 use Rattle.solid_faces.proofs.KeptLaws.{planes-none, planes-more, planes-all}

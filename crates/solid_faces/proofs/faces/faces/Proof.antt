@@ -7,13 +7,12 @@ use denote.Ref.{now}
 use Rattle.file_part.specs.Layout.{polygonCount}
 use Rattle.file_part.specs.Part.{partOf}
 use Rattle.file_ok.proofs.ReadableLaws.{readable-counts}
-use Rattle.solid_faces.specs.Kept.{from, Firsts, FaceNumbers}
-use Rattle.solid_faces.specs.Work.{Table}
+use Rattle.solid_faces.specs.Kept.{FaceNumbers}
+use Rattle.solid_faces.specs.Work.{from, Firsts, Table, faceCells}
 use Rattle.solid_faces.proofs.BodyLaws.{readable-long, polygons-are, checked-readable, checked-number}
 use Rattle.solid_faces.proofs.FirstLaws.{firsts-none, firsts-count, numbers-none, faces-turn, faces-done}
 use Rattle.solid_faces.proofs.TableLaws.{table-none}
 use native.Mathlib.Omega.{arith}
-use Rattle.solid_faces.specs.Kept.{faceCells}
 use Rattle.solid_faces.proofs.faces.faces.Statement.{statement}
 use Rattle.solid_faces.proofs.faces.faces.Tie as tie
 

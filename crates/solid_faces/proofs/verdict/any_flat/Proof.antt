@@ -5,7 +5,7 @@ use Prim.Native.Nat.{_-_, _≤_}
 use native.Mathlib.Omega.{arith}
 use denote.Ref.{now}
 use Rattle.file_part.specs.Part.{partOf}
-use Rattle.file_ok.specs.Verdict.{Readable}
+use Rattle.file_ok.specs.Work.{Readable}
 use Rattle.solid_faces.specs.Faces.{polygonFlat}
 use Rattle.solid_faces.proofs.BodyLaws.{readable-long, EntryRoom, entry-room, RunRoom, run-room, run-flat, polygons-are, NoneFlat, flat-none, flat-more, flat-found, flat-all}
 use Rattle.solid_faces.proofs.verdict.any_flat.Statement.{statement}

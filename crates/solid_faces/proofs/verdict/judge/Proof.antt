@@ -2,7 +2,7 @@
 use borrow.Author.Needs.{needs}
 use Rattle.solid_faces.proofs.BodyLaws.{is-readable, body-refused, body-flat, body-many, body-accepted}
 use denote.Ref.{now}
-use Rattle.file_ok.specs.Verdict.{Readable}
+use Rattle.file_ok.specs.Work.{Readable}
 use Rattle.solid_faces.proofs.verdict.judge.Statement.{statement}
 use Rattle.solid_faces.proofs.verdict.judge.Tie as tie
 

@@ -5,7 +5,7 @@ use native.Mathlib.Omega.{arith}
 use lib.ListN.{length, set, length-set}
 use borrow.Author.Needs.{needs}
 use borrow.Author.Count.{below-none, below-more}
-use Rattle.solid_keys.specs.Columns.{col, Kept}
+use Rattle.solid_keys.specs.Work.{col, Kept}
 use Rattle.solid_keys.proofs.CellLaws.{put-cell, kept-none, kept-set}
 use Rattle.solid_keys.proofs.chains.clear.Statement.{statement}
 use Rattle.solid_keys.proofs.chains.clear.Tie as tie

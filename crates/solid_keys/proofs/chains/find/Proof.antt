@@ -3,7 +3,7 @@ use mathlib.Core.Path.{sym, _∙_}
 use native.Mathlib.Omega.{arith}
 use borrow.Author.Needs.{needs}
 use borrow.Author.Tests.{not-true}
-use Rattle.solid_keys.specs.Columns.{col, sideCells, slot}
+use Rattle.solid_keys.specs.Work.{col, sideCells, slot}
 use Rattle.solid_keys.proofs.ColumnLaws.{keyless-none, same-slot}
 use Rattle.solid_keys.proofs.WalkLaws.{Walk, walk-start, walk-found, walk-on, walk-falls, walk-end}
 use Rattle.solid_keys.proofs.chains.find.Statement.{statement}

@@ -3,7 +3,7 @@ use mathlib.Core.Bool.{not}
 use mathlib.Core.Path.{ap}
 use native.Mathlib.Omega.{arith}
 use borrow.Author.Needs.{needs}
-use Rattle.solid_keys.specs.Columns.{liveCells}
+use Rattle.solid_keys.specs.Work.{liveCells}
 use Rattle.solid_keys.specs.Pair.{isLive}
 use Rattle.solid_keys.proofs.chains.is_live.Statement.{statement}
 use Rattle.solid_keys.proofs.chains.is_live.Tie as tie

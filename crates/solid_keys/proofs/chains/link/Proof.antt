@@ -4,7 +4,7 @@ use Prim.Native.Nat.{_-_, _≤_}
 use native.Mathlib.Omega.{arith}
 use lib.ListN.{length, length-set}
 use borrow.Author.Needs.{needs}
-use Rattle.solid_keys.specs.Columns.{Sides}
+use Rattle.solid_keys.specs.Work.{Sides}
 use Rattle.solid_keys.proofs.ColumnLaws.{sides-kept}
 use Rattle.solid_keys.proofs.ChainLaws.{Linked, Slotted, linked-start, linked-more, linked-all, next-now, from-now}
 use Rattle.solid_keys.proofs.chains.link.Statement.{statement}

@@ -1,7 +1,7 @@
 -- `solid_keys::chains::mix_of` meets its contract.
 use native.Mathlib.Omega.{arith}
 use borrow.Author.Needs.{needs}
-use Rattle.solid_keys.specs.Columns.{mix}
+use Rattle.solid_keys.specs.Work.{mix}
 use Rattle.solid_keys.proofs.chains.mix_of.Statement.{statement}
 use Rattle.solid_keys.proofs.chains.mix_of.Tie as tie
 

@@ -5,7 +5,7 @@ use Prim.Native.Nat.{ℕ, _+_, _-_, _≤_}
 use native.Mathlib.Omega.{arith}
 use lib.ListN.{length}
 use borrow.Author.Needs.{needs}
-use Rattle.solid_keys.specs.Columns.{col, sideCells, Kept, Out}
+use Rattle.solid_keys.specs.Work.{col, sideCells, Kept, Out}
 use Rattle.solid_keys.proofs.CellLaws.{kept-none, kept-join, kept-fewer}
 use Rattle.solid_keys.proofs.ColumnLaws.{side-cells-kept, sides-kept, before-kept}
 use Rattle.solid_keys.proofs.PairLaws.{out-none, out-all}

@@ -1,6 +1,6 @@
 -- `solid_keys::chains::pair_sides` meets its contract.
 use borrow.Author.Needs.{needs}
-use Rattle.solid_keys.specs.Columns.{col, Sides}
+use Rattle.solid_keys.specs.Work.{col, Sides}
 use Rattle.solid_keys.proofs.ColumnLaws.{sides-kept, before-cells, paired-cells}
 use Rattle.solid_keys.proofs.chains.pair_sides.Statement.{statement}
 use Rattle.solid_keys.proofs.chains.pair_sides.Tie as tie

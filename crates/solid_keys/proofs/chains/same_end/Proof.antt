@@ -1,7 +1,7 @@
 -- `solid_keys::chains::same_end` meets its contract.
 use mathlib.Core.Path.{refl}
 use borrow.Author.Needs.{needs}
-use Rattle.solid_keys.specs.Columns.{sameCells}
+use Rattle.solid_keys.specs.Work.{sameCells}
 use Rattle.solid_keys.proofs.chains.same_end.Statement.{statement}
 use Rattle.solid_keys.proofs.chains.same_end.Tie as tie
 

@@ -2,7 +2,7 @@
 use mathlib.Core.Bool.{true, false}
 use mathlib.Core.Path.{_≡_, sym, _∙_}
 use borrow.Author.Needs.{needs}
-use Rattle.solid_keys.specs.Columns.{sameCells}
+use Rattle.solid_keys.specs.Work.{sameCells}
 use Rattle.solid_keys.specs.Pair.{bothEnds, samePair}
 use Rattle.solid_keys.proofs.chains.same_pair.Statement.{statement}
 use Rattle.solid_keys.proofs.chains.same_pair.Tie as tie

@@ -4,7 +4,7 @@ use mathlib.Core.Path.{_≡_, sym, _∙_}
 use native.Mathlib.Omega.{arith}
 use borrow.Author.Needs.{needs}
 use borrow.Author.Tests.{not-true, not-false}
-use Rattle.solid_keys.specs.Columns.{col, sameCells, liveCells, sideCells}
+use Rattle.solid_keys.specs.Work.{col, sameCells, liveCells, sideCells}
 use Rattle.solid_keys.specs.Pair.{isLive, sideKey}
 use Rattle.solid_keys.proofs.chains.same_side.Statement.{statement}
 use Rattle.solid_keys.proofs.chains.same_side.Tie as tie

@@ -2,7 +2,7 @@
 use native.Mathlib.Nat.{mod-lt}
 use native.Mathlib.Omega.{arith}
 use borrow.Author.Needs.{needs}
-use Rattle.solid_keys.specs.Columns.{slot}
+use Rattle.solid_keys.specs.Work.{slot}
 use Rattle.solid_keys.proofs.chains.slot_of.Statement.{statement}
 use Rattle.solid_keys.proofs.chains.slot_of.Tie as tie
 

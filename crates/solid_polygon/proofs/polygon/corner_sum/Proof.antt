@@ -4,7 +4,8 @@ use mathlib.Core.Path.{_≡_}
 use Prim.Native.Nat.{_-_, _≤_}
 use native.Mathlib.Omega.{arith}
 use Rattle.math.specs.Vector.{zeroVec}
-use Rattle.solid_polygon.specs.Polygon.{cornerAt, cornersTo}
+use Rattle.solid_polygon.specs.Polygon.{cornersTo}
+use Rattle.solid_polygon.specs.Work.{cornerAt}
 use Rattle.solid_polygon.proofs.CornerLaws.{corners-none, corners-more, corners-all}
 use Rattle.solid_polygon.proofs.polygon.corner_sum.Statement.{statement}
 use Rattle.solid_polygon.proofs.polygon.corner_sum.Tie as tie

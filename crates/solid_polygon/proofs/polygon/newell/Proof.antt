@@ -4,7 +4,8 @@ use mathlib.Core.Path.{_≡_}
 use Prim.Native.Nat.{_-_, _≤_}
 use native.Mathlib.Omega.{arith}
 use Rattle.math.specs.Vector.{zeroVec}
-use Rattle.solid_polygon.specs.Polygon.{cornerAt, newellTo}
+use Rattle.solid_polygon.specs.Polygon.{newellTo}
+use Rattle.solid_polygon.specs.Work.{cornerAt}
 use Rattle.solid_polygon.proofs.CornerLaws.{newell-none, newell-more, newell-all}
 use Rattle.solid_polygon.proofs.polygon.newell.Statement.{statement}
 use Rattle.solid_polygon.proofs.polygon.newell.Tie as tie

@@ -3,7 +3,8 @@ use borrow.Author.Needs.{needs}
 use mathlib.Core.Path.{_≡_}
 use Prim.Native.Nat.{_-_, _≤_}
 use native.Mathlib.Omega.{arith}
-use Rattle.solid_polygon.specs.Polygon.{cornerAt, areaTo}
+use Rattle.solid_polygon.specs.Polygon.{areaTo}
+use Rattle.solid_polygon.specs.Work.{cornerAt}
 use Rattle.solid_polygon.proofs.CornerLaws.{area-none, area-more, area-all}
 use Rattle.solid_polygon.proofs.polygon.poly_area.Statement.{statement}
 use Rattle.solid_polygon.proofs.polygon.poly_area.Tie as tie

@@ -4,7 +4,8 @@ use Prim.Native.Nat.{_≤_}
 use lib.IntN.{natAbs}
 use lib.Dec.{lit<}
 use borrow.Author.Needs.{needs}
-use Rattle.solid_segments.specs.Key.{segmentScale, keyPart, fromZero, keyCell}
+use Rattle.solid_segments.specs.Key.{segmentScale, keyPart}
+use Rattle.solid_segments.specs.Work.{fromZero, keyCell}
 use Rattle.solid_segments.proofs.KeyLaws.{segment-key, rounded-small, sum-fits, cast-fits, cast-is}
 use Rattle.solid_segments.proofs.key.key_cell.Statement.{statement}
 use Rattle.solid_segments.proofs.key.key_cell.Tie as tie

@@ -2,7 +2,7 @@
 use borrow.Author.Needs.{needs}
 use Prim.Native.Nat.{_-_, _≤_}
 use native.Mathlib.Omega.{arith}
-use Rattle.solid_segments.specs.Stages.{Packed}
+use Rattle.solid_segments.specs.Work.{Packed}
 use Rattle.solid_segments.proofs.PackLaws.{packed-none, packed-all}
 use Rattle.solid_segments.proofs.pack.pack_sides.Statement.{statement}
 use Rattle.solid_segments.proofs.pack.pack_sides.Tie as tie

@@ -5,7 +5,7 @@ use native.Mathlib.Omega.{arith}
 use lib.ListN.{length, length-set}
 use borrow.Author.Needs.{needs}
 use Rattle.file_part.specs.Part.{partOf}
-use Rattle.solid_segments.specs.Stages.{OwnsMore}
+use Rattle.solid_segments.specs.Work.{OwnsMore}
 use Rattle.solid_segments.proofs.PlaceLaws.{SideAt, lent-still, side-below, side-room, owned-more, owns-none, owns-run}
 use Rattle.solid_segments.proofs.shared.put_owner.Statement.{statement}
 use Rattle.solid_segments.proofs.shared.put_owner.Tie as tie

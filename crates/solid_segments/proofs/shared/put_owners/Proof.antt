@@ -5,7 +5,7 @@ use native.Mathlib.Omega.{arith}
 use lib.ListN.{length}
 use borrow.Author.Needs.{needs}
 use Rattle.file_part.specs.Part.{partOf}
-use Rattle.solid_segments.specs.Stages.{startOf, OwnsMore}
+use Rattle.solid_segments.specs.Work.{startOf, OwnsMore}
 use Rattle.solid_segments.proofs.PlaceLaws.{lent-still, owns-none, owns-join, owns-all}
 use Rattle.solid_segments.proofs.shared.put_owners.Statement.{statement}
 use Rattle.solid_segments.proofs.shared.put_owners.Tie as tie

@@ -5,7 +5,7 @@ use native.Mathlib.Omega.{arith}
 use lib.ListN.{length}
 use borrow.Author.Needs.{needs}
 use Rattle.file_part.specs.Part.{partOf}
-use Rattle.solid_segments.specs.Stages.{PlacedBelow}
+use Rattle.solid_segments.specs.Work.{PlacedBelow}
 use Rattle.solid_segments.proofs.PlaceLaws.{SideAt, lent-still, side-below, side-room, side-within, vertex-room, next-below, placed-more, placed-start, placed-end}
 use Rattle.solid_segments.proofs.shared.put_run.Statement.{statement}
 use Rattle.solid_segments.proofs.shared.put_run.Tie as tie

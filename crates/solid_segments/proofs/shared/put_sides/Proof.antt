@@ -5,7 +5,7 @@ use native.Mathlib.Omega.{arith}
 use lib.ListN.{length}
 use borrow.Author.Needs.{needs}
 use Rattle.file_part.specs.Part.{partOf}
-use Rattle.solid_segments.specs.Stages.{startOf, PlacedBelow}
+use Rattle.solid_segments.specs.Work.{startOf, PlacedBelow}
 use Rattle.solid_segments.proofs.PlaceLaws.{lent-still, placed-first, placed-all}
 use Rattle.solid_segments.proofs.shared.put_sides.Statement.{statement}
 use Rattle.solid_segments.proofs.shared.put_sides.Tie as tie

@@ -1,7 +1,7 @@
 -- `solid_segments::shared::read_run` meets its contract.
 use Prim.Native.Nat.{_+_}
 use native.Mathlib.Omega.{arith}
-use Rattle.solid_segments.specs.Stages.{RunAt}
+use Rattle.solid_segments.specs.Work.{RunAt}
 use Rattle.solid_segments.proofs.PlaceLaws.{entry-room, entry-small, run-at}
 use Rattle.solid_segments.proofs.shared.read_run.Statement.{statement}
 use Rattle.solid_segments.proofs.shared.read_run.Tie as tie

@@ -5,7 +5,7 @@ use borrow.Author.Needs.{needs}
 use Rattle.file_part.specs.Part.{partOf}
 use Rattle.file_part.proofs.PartLaws.{part-vertices}
 use Rattle.file_ok.proofs.ReadableLaws.{readable-length, readable-counts}
-use Rattle.solid_segments.specs.Stages.{Lent, PairedSides}
+use Rattle.solid_segments.specs.Work.{Lent, PairedSides}
 use Rattle.solid_segments.proofs.PlaceLaws.{lent-of, lent-still}
 use Rattle.solid_segments.proofs.PackLaws.{packed-shared}
 use Rattle.solid_segments.proofs.SharedLaws.{placed-sides, all-shared}

@@ -9,11 +9,11 @@ use denote.Ref.{now}
 use Rattle.list_laws.specs.Below.{allBelow}
 use Rattle.list_laws.proofs.Below.{all-none}
 use Rattle.file_part.specs.Part.{partOf}
-use Rattle.file_ok.specs.Verdict.{Readable}
-use Rattle.solid_polygon.specs.Polygon.{cornerAt}
+use Rattle.file_ok.specs.Work.{Readable}
+use Rattle.solid_polygon.specs.Work.{cornerAt}
 use Rattle.solid_faces.specs.Faces.{polygonPlane}
 use Rattle.solid_faces.proofs.BodyLaws.{readable-long, EntryRoom, entry-room, run-room, polygons-are, checked-readable}
-use Rattle.wall_ray.specs.Corners.{Corners}
+use Rattle.wall_ray.specs.Work.{Corners}
 use Rattle.wall_ray.specs.Strike.{isWithin}
 use Rattle.wall_ray.specs.Nearest.{improves}
 use Rattle.wall_ray.proofs.StruckLaws.{sides-more, side-fails, sides-all, run-corners, is-time, off-plane, outside, unreached, taken}

@@ -7,7 +7,7 @@ use Prim.Native.Nat.{_≤_, _-_}
 use native.Mathlib.Omega.{arith}
 use Rattle.list_laws.specs.Below.{allBelow}
 use Rattle.list_laws.proofs.Below.{all-none}
-use Rattle.solid_polygon.specs.Polygon.{cornerAt}
+use Rattle.solid_polygon.specs.Work.{cornerAt}
 use Rattle.wall_ray.specs.Strike.{isWithin}
 use Rattle.wall_ray.proofs.StruckLaws.{sides-more, side-fails, sides-all}
 use Rattle.wall_ray.proofs.strike.is_inside.Statement.{statement}

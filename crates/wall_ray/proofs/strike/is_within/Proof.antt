@@ -1,7 +1,7 @@
 -- `wall_ray::strike::is_within` meets its contract.
 use borrow.Author.Needs.{needs}
 use native.Mathlib.Omega.{arith}
-use Rattle.solid_polygon.specs.Polygon.{cornerAt}
+use Rattle.solid_polygon.specs.Work.{cornerAt}
 use Rattle.wall_ray.specs.Strike.{isWithin}
 use Rattle.wall_ray.proofs.strike.is_within.Statement.{statement}
 use Rattle.wall_ray.proofs.strike.is_within.Tie as tie

@@ -1,6 +1,6 @@
 -- `solid_boxes::bounds::Bounds::join` meets its contract.
 use borrow.Author.Needs.{needs}
-use Rattle.solid_boxes.specs.Bounds.{joined}
+use Rattle.solid_boxes.specs.Work.{joined}
 use Rattle.solid_boxes.proofs.bounds.Bounds.join.Statement.{statement}
 use Rattle.solid_boxes.proofs.bounds.Bounds.join.Tie as tie
 

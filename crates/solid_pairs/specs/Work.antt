@@ -1,16 +1,16 @@
--- Items sorted by their pairs of faces, and a walk over the pairs. Definitions only.
+-- What private functions leave on the way; a reader may pass over it. Definitions only.
 use mathlib.Core.Path.{_≡_}
 use mathlib.Core.List.{List}
 use Prim.Native.Nat.{ℕ, _+_, _*_}
 use lib.Ieee.{Float}
-use Rattle.list_groups.specs.Groups.{withKey, pairKey}
-use Rattle.list_groups.specs.Order.{WholeIs, Keyed, Grouped, Walked, ofItems}
+use Rattle.list_groups.specs.Work.{withKey, pairKey, WholeIs, Keyed, Grouped, Walked, ofItems}
 use Rattle.file_part.specs.Part.{Part}
 use Rattle.solid_faces.specs.Faces.{facesOf}
 use Rattle.solid_ranks.specs.Ranks.{rankOf, faceOfRank}
 use Rattle.solid_pairs.specs.declared.FacePair.{FacePair}
 use Rattle.solid_pairs.specs.Pairs.{lower, higher}
 
+-- ---- items sorted by their pairs of faces, and a walk over the pairs
 -- the faces f and g as a pair, with the key rank * n + rank
 pub record PairIs (t : Part) (f g : ℕ) (r : FacePair) : Type 0 where
   pub first : r .first ≡ lower t f g

@@ -1,10 +1,4 @@
--- Sides in one slice of u32, eight cells a side. Definitions only.
---   0, 1, 2   the key of vertex s, each part counted from 0
---   3         the vertex where side s ends
---   4         one more than the last side in slot s; later the polygon of side s
---   5         one more than the side before s in its slot
---   6         one more than the side before s that has its key
---   7         the pair of side s
+-- What private functions leave on the way; a reader may pass over it. Definitions only.
 use mathlib.Core.Path.{_≡_}
 use mathlib.Core.Bool.{Bool, _&&_}
 use mathlib.Core.List.{List}
@@ -12,6 +6,14 @@ use Prim.Native.Nat.{ℕ, _+_, _*_, _/_, _%_, _<_, _≤_}
 use lib.Dec.{eqb}
 use lib.ListN.{length, getD}
 use Rattle.solid_keys.specs.Pair.{above, isLive, sideKey, pairAmong, pairOf}
+
+-- ---- sides in one slice of u32, eight cells a side:
+--   0, 1, 2   the key of vertex s, each part counted from 0
+--   3         the vertex where side s ends
+--   4         one more than the last side in slot s; later the polygon of side s
+--   5         one more than the side before s in its slot
+--   6         one more than the side before s that has its key
+--   7         the pair of side s
 
 -- column j of side s
 abbrev pub col : List ℕ → ℕ → ℕ → ℕ

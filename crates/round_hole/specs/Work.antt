@@ -1,4 +1,4 @@
--- Directions in the cells of a slice of f64. Definitions only.
+-- What private functions leave on the way; a reader may pass over it. Definitions only.
 use mathlib.Core.Path.{_≡_}
 use mathlib.Core.Bool.{Bool, true, false}
 use mathlib.Core.List.{List, [], _∷_, _++_}
@@ -9,6 +9,7 @@ use lib.ListN.{getD}
 use Rattle.round_hole.specs.declared.direction.Direction.{Direction}
 use Rattle.round_hole.specs.Direction.{follows}
 
+-- ---- directions in the cells of a slice of f64
 -- u and v lie from -2^20 to 2^20, as those of a vertex do
 pub record Packable (d : Direction) : Type 0 where
   pub u-within : natAbs (d .u) ≤ 1048576

@@ -1,5 +1,4 @@
--- What the functions of this crate say of the lent slices. The code knows no part: what it puts is told for every part that the slices hold.
--- Definitions only.
+-- What private functions leave on the way; a reader may pass over it. Definitions only.
 use mathlib.Core.Path.{_≡_}
 use mathlib.Core.Bool.{true, false}
 use mathlib.Core.List.{List}
@@ -12,6 +11,8 @@ use Rattle.file_part.specs.Part.{Part}
 use Rattle.solid_faces.specs.Faces.{isNew, faceNumber, facesOf, nextPolygon, polygonArea}
 use Rattle.solid_faces.specs.Kept.{FaceAreas}
 use Rattle.wall_starts.specs.Starts.{totalArea, facePolygons, orderedPolygons}
+
+-- ---- what the functions of this crate say of the lent slices. The code knows no part: what it puts is told for every part that the slices hold.
 
 -- ---- how many rays a face gets
 -- the sum of the first n areas of l

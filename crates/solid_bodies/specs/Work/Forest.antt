@@ -1,8 +1,8 @@
--- A forest in a list: of each number its parent, a root being its own. What the functions of `forest` say of it. Definitions only.
-use Prim.Native.Nat.{ℕ, _≤_, _<_}
+-- A forest in a list: of each number its parent, a root being its own. What the functions of `forest` say of it. A reader may pass over it. Definitions only.
 use mathlib.Core.Path.{_≡_}
 use mathlib.Core.Logic.{_⊎_}
 use mathlib.Core.List.{List}
+use Prim.Native.Nat.{ℕ, _≤_, _<_}
 use lib.ListN.{length, getD}
 use Rattle.solid_bodies.specs.Body.{Chain}
 

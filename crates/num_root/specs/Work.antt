@@ -1,10 +1,11 @@
--- What the steps of the root say of whole numbers.
+-- What private functions leave on the way; a reader may pass over it. Definitions only.
 use mathlib.Core.Path.{_≡_}
 use mathlib.Core.Bool.{false}
 use Prim.Native.Nat.{ℕ, _+_, _-_, _*_, _^_, _≤_, _<_}
 use lib.Ieee.{binary64, round, ofBits}
 use Rattle.num_root.specs.Root.{root, twiceRoot}
 
+-- ---- what the steps of the root say of whole numbers
 -- r is the whole number nearest the root of n: (r - 1/2)² < n < (r + 1/2)², multiplied out; a tie is impossible, since (r ± 1/2)² is no whole number
 pub record Near (n r : ℕ) : Type 0 where
   pub below : r * r < n + r

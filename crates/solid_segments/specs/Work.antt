@@ -1,19 +1,51 @@
--- What the columns hold on the way from an accepted file to its shared segments. Definitions only.
+-- What private functions leave on the way; a reader may pass over it. Definitions only.
 use mathlib.Core.Path.{_≡_}
 use mathlib.Core.List.{List}
-use Prim.Native.Nat.{ℕ, _+_, _*_, _≤_, _<_}
+use Prim.Native.Nat.{ℕ, suc, _+_, _-_, _*_, _≤_, _<_}
+use lib.IntN.{ℤ, pos, negsuc}
 use lib.Ieee.{Float}
 use lib.ListN.{length, getD, set}
 use Rattle.math.specs.declared.Vec3.{Vec3}
-use Rattle.file_part.specs.Layout.{vertexCount}
 use Rattle.file_part.specs.Part.{Part, partOf}
+use Rattle.file_part.specs.Layout.{vertexCount}
 use Rattle.file_ok.specs.Rules.{runStart}
-use Rattle.file_ok.specs.Verdict.{Readable}
-use Rattle.solid_segments.specs.Key.{segmentScale, keyCell}
-use Rattle.solid_keys.specs.Columns.{col}
-use Rattle.solid_keys.specs.Pair.{pairOf}
-use Rattle.solid_segments.specs.Sides.{ownerOf, toOf, sameSide, sideCells}
+use Rattle.file_ok.specs.Work.{Readable}
+use Rattle.solid_keys.specs.Pair.{Shared, Many, pairOf}
+use Rattle.solid_keys.specs.Work.{col}
+use Rattle.solid_segments.specs.Key.{keyPart, segmentScale}
+use Rattle.solid_segments.specs.Sides.{runEnd, ownerOf, toOf, sameSide}
 
+-- ---- beside Key.antt
+-- a whole number of at most b in size, counted from -b on
+unfoldable pub fromZero : ℕ → ℤ → ℕ
+fromZero b (pos n) = b + n
+fromZero b (negsuc n) = b - suc n
+
+-- a coordinate's key as the columns hold it
+unfoldable pub keyCell : Float → ℕ → Float → ℕ
+keyCell scale b x = fromZero b (keyPart scale x)
+
+-- ---- beside Sides.antt
+-- side s lies in the run of a polygon, and ends at a vertex
+pub record Owned (t : Part) (s : ℕ) : Type 0 where
+  pub low : ownerOf t s < t .polygons
+  pub from : t .polygon (ownerOf t s) .first ≤ s
+  pub before : s < runEnd t (ownerOf t s)
+  pub to : toOf t s < t .vertices
+
+-- "A shared segment": sides s and u, and no third, have one key, and s comes first
+abbrev pub SharedBy : Part → ℕ → ℕ → Type 0
+SharedBy t s u = Shared (sameSide t) (t .vertices) s u
+
+-- the first side of a key that more than two sides have
+abbrev pub FirstOfMany : Part → ℕ → Type 0
+FirstOfMany t s = Many (sameSide t) (t .vertices) s
+
+-- the cells that `shared_segments` is lent for v sides: eight each while they are paired
+abbrev pub sideCells : ℕ → ℕ
+sideCells v = 8 * v
+
+-- ---- what the columns hold on the way from an accepted file to its shared segments
 -- where the run of polygon p of a file begins
 abbrev pub startOf : List ℕ → ℕ → ℕ
 startOf file p = runStart file (vertexCount file) p

@@ -1,6 +1,0 @@
--- What each element of a list has. Definitions only.
-use mathlib.Core.List.{List, [], _∷_}
-
-unfoldable pub Each : {A : Type 0} → (A → Type 0) → List A → Type 0
-Each P [] = Unit {0}
-Each P (x ∷ xs) = P x × Each P xs
