@@ -18,8 +18,8 @@ use Rattle.fault_lines.proofs.Found.{listed}
 use Rattle.dfm_core.specs.declared.answer.Answer.{Answer}
 use Rattle.dfm_core.specs.declared.halves.Findings.{Findings}
 use Rattle.dfm_core.specs.Faults.{faultsOf, reportOf}
-use Rattle.dfm_core.specs.Answer.{isAccepted, isEarly, wipeFrom, answerOf}
-use Rattle.dfm_core.specs.Work.{refusalOf, answerAfter, Ready, Finding, Ended}
+use Rattle.dfm_core.specs.Answer.{isAccepted, answerOf}
+use Rattle.dfm_core.specs.Work.{isEarly, wipeFrom, refusalOf, answerAfter, Ready, Finding, Ended}
 use Rattle.dfm_core.proofs.ReportLaws.{by-true, by-false, ready-same, early-some}
 use Rattle.dfm_core.proofs.AnswerLaws.{answer-after, early-refused, early-answered, wipe-refused, wipe-answered}
 use Rattle.dfm.specs.Check.{Outcome}

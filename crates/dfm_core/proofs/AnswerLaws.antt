@@ -17,8 +17,8 @@ use Rattle.scratch.specs.Refusal.{tooLittle, bodyRefusal}
 use Rattle.dfm_core.specs.declared.answer.Answer.{Answer}
 use Rattle.dfm_core.specs.declared.answer.Answer.the-variants.{Accepted, Refused}
 use Rattle.dfm_core.specs.Faults.{faultsOf, reportOf}
-use Rattle.dfm_core.specs.Answer.{answerOf, isEarly, wipeFrom}
-use Rattle.dfm_core.specs.Work.{refusalOf, answerAfter}
+use Rattle.dfm_core.specs.Answer.{answerOf}
+use Rattle.dfm_core.specs.Work.{isEarly, wipeFrom, refusalOf, answerAfter}
 
 -- ---- 1 to 10 end at 10
 number-nine : (v : Verdict) → number v ≤ 9

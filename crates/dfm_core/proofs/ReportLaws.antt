@@ -37,8 +37,8 @@ use Rattle.dfm_core.specs.declared.answer.Answer.{Answer}
 use Rattle.dfm_core.specs.declared.answer.Answer.the-variants.{Accepted, Refused}
 use Rattle.dfm_core.specs.declared.halves.Findings.{Findings}
 use Rattle.dfm_core.specs.Faults.{faultsOf, reportOf}
-use Rattle.dfm_core.specs.Answer.{isAccepted, isEarly}
-use Rattle.dfm_core.specs.Work.{Asked, FaultsFound, answerFor, refusalOf, answerAfter, refusedBy, Ready, Finding, Answered, Ended}
+use Rattle.dfm_core.specs.Answer.{isAccepted}
+use Rattle.dfm_core.specs.Work.{isEarly, Asked, FaultsFound, answerFor, refusalOf, answerAfter, refusedBy, Ready, Finding, Answered, Ended}
 
 -- a test that is known
 pub by-true : {X : Type 0} (b : Bool) (x y : X) → b ≡ true → cond b x y ≡ x

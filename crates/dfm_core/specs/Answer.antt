@@ -1,8 +1,8 @@
 -- What the check of a part file answers. Definitions only.
-use mathlib.Core.Bool.{Bool, true, false, _&&_, cond}
+use mathlib.Core.Bool.{Bool, true, false, cond}
 use mathlib.Core.List.{List}
 use Prim.Native.Nat.{ℕ}
-use lib.Dec.{eqb, leb, ltb}
+use lib.Dec.{eqb, leb}
 use lib.ListN.{length}
 use Rattle.file_part.specs.Part.{partOf}
 use Rattle.scratch.specs.Refusal.{bodyRefusal}
@@ -32,13 +32,3 @@ answerOf s words reals rows room =
     (cond (leb (length (faultsOf (partOf s))) rows)
     (cond (leb (length (reportOf (partOf s))) room) (Accepted (length (reportOf (partOf s)))) (Refused 12)) (Refused 11))
     (Refused (bodyRefusal s words reals))
-
--- ---- what it means for the buffers
--- "1 to 10 .. change no buffer"
-unfoldable pub isEarly : ℕ → Bool
-isEarly k = ltb 0 k && leb k 10
-
--- "11, 12 and an accepted check leave scratch and rows all zero": from which number on the rows are zeroed
-unfoldable pub wipeFrom : Answer → ℕ → ℕ
-wipeFrom (Accepted n) rows = 0
-wipeFrom (Refused k) rows = cond (isEarly k) rows 0

@@ -1,14 +1,14 @@
 -- What the functions of this crate leave on the way. A reader may pass over it.
+use mathlib.Core.Bool.{Bool, _&&_, cond, true, false}
 use mathlib.Core.Path.{_≡_}
-use mathlib.Core.Bool.{Bool, true, false, cond}
 use mathlib.Core.List.{List, _++_}
 use Prim.Native.Nat.{ℕ, _≤_, _<_, min}
-use lib.Dec.{eqb, leb}
+use lib.Dec.{leb, ltb, eqb}
 use lib.ListN.{length, drop, replicate}
 use lib.Ieee.{Float}
+use Rattle.math.specs.Vector.{zero}
 use Rattle.file_job.specs.declared.Process.{Process}
 use Rattle.file_job.specs.declared.Process.the-variants.{CncMachining, SheetMetal, Fdm, Sla, Sls}
-use Rattle.math.specs.Vector.{zero}
 use Rattle.file_part.specs.Part.{Part, partOf}
 use Rattle.scratch.specs.declared.regions.Regions.{Regions}
 use Rattle.scratch.specs.declared.regions.Stages.{Stages}
@@ -19,20 +19,30 @@ use Rattle.fault_row.specs.declared.summary.Found.{Found}
 use Rattle.fault_row.specs.Row.{rowAt, rowRoom}
 use Rattle.fault_row.specs.Faults.{FaultsPut}
 use Rattle.fault_row.specs.Summary.{noSummary}
-use Rattle.fault_lines.specs.Lines.{linesOf}
 use Rattle.fault_text.specs.Meaning.{faultOf, GoodRow}
-use Rattle.fault_merge.specs.Work.{faultsTo}
+use Rattle.fault_lines.specs.Lines.{linesOf}
 use Rattle.rule_machining.specs.All.{MachiningPut}
 use Rattle.rule_printing.specs.Rules.{trapsHollows}
+use Rattle.fault_merge.specs.Work.{faultsTo}
+use Rattle.report_faces.specs.Work.{Told, Kept}
 use Rattle.report.specs.declared.report.Written.{Written}
 use Rattle.report.specs.declared.report.Written.the-variants.{Bytes, TooLong}
 use Rattle.report.specs.Text.{reportText}
-use Rattle.report_faces.specs.Work.{Told, Kept}
 use Rattle.dfm_core.specs.declared.answer.Answer.{Answer}
 use Rattle.dfm_core.specs.declared.answer.Answer.the-variants.{Accepted, Refused}
-use Rattle.dfm_core.specs.Faults.{faultsOf, summaryOf, reportOf}
 use Rattle.dfm_core.specs.declared.halves.Findings.{Findings}
-use Rattle.dfm_core.specs.Answer.{isAccepted, isEarly}
+use Rattle.dfm_core.specs.Faults.{faultsOf, summaryOf, reportOf}
+use Rattle.dfm_core.specs.Answer.{isAccepted}
+
+-- ---- what it means for the buffers
+-- "1 to 10 .. change no buffer"
+unfoldable pub isEarly : ℕ → Bool
+isEarly k = ltb 0 k && leb k 10
+
+-- "11, 12 and an accepted check leave scratch and rows all zero": from which number on the rows are zeroed
+unfoldable pub wipeFrom : Answer → ℕ → ℕ
+wipeFrom (Accepted n) rows = 0
+wipeFrom (Refused k) rows = cond (isEarly k) rows 0
 
 -- ---- what a process asks for
 -- segments where a rule asks for edges or for open keys: every process has one

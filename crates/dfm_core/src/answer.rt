@@ -1,7 +1,6 @@
 // The answer to a part file.
 ghost use mathlib.Core.Path.{_≡_};
-ghost use Rattle.dfm_core.specs.Answer.{isEarly, wipeFrom};
-ghost use Rattle.dfm_core.specs.Work.{answerFor};
+ghost use Rattle.dfm_core.specs.Work.{isEarly, wipeFrom, answerFor};
 use report::report::Written;
 
 // What the check of a part answers. Its numbers: specs/Answer.antt.

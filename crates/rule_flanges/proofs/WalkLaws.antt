@@ -19,7 +19,7 @@ use Rattle.solid_ranks.specs.Ranks.{rankOf, faceOfRank}
 use Rattle.solid_tours.specs.declared.tour.Places.{Places}
 use Rattle.solid_tours.specs.declared.tour.Group.{Group}
 use Rattle.solid_tours.specs.Tours.{edgesBetween, overNeighbours}
-use Rattle.solid_tours.specs.Kept.{keyStart, EdgesOrdered, FacePlaces, RestPlaces, GroupPlaces, NextGroup, TourTo, ItemAt}
+use Rattle.solid_tours.specs.Work.Kept.{keyStart, EdgesOrdered, FacePlaces, RestPlaces, GroupPlaces, NextGroup, TourTo, ItemAt}
 use Rattle.solid_tours.proofs.EdgeLaws.{edge-between, first-edge}
 use Rattle.solid_tours.proofs.TourLaws.{place-between, group-first, rest-all, tour-start, tour-more, tour-end}
 use Rattle.round_all.specs.Round.{roundOf}

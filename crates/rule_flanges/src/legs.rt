@@ -8,7 +8,7 @@ ghost use Rattle.file_part.specs.Part.{partOf};
 ghost use Rattle.solid_faces.specs.Faces.{facesOf};
 ghost use Rattle.scratch.specs.Standing.{Standing};
 ghost use Rattle.solid_tours.specs.Tours.{edgesBetween};
-ghost use Rattle.solid_tours.specs.Kept.{GroupPlaces};
+ghost use Rattle.solid_tours.specs.Work.Kept.{GroupPlaces};
 ghost use Rattle.round_all.specs.Round.{isRound};
 ghost use Rattle.sheet_bends.specs.Bends.{outsideOf, isBend};
 ghost use Rattle.sheet_bends.specs.Work.{SheetStands};

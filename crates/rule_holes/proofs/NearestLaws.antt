@@ -23,8 +23,9 @@ use Rattle.solid_flat.specs.Flat.{isFlatFace}
 use Rattle.solid_edges.specs.Distance.{betweenDistance}
 use Rattle.solid_tours.specs.declared.tour.Places.{Places}
 use Rattle.solid_tours.specs.declared.tour.Group.{Group}
-use Rattle.solid_tours.specs.Tours.{edgesBetween, overNeighbours, leastSquare}
-use Rattle.solid_tours.specs.Kept.{EdgesOrdered, FacePlaces, RestPlaces, NextGroup, TourTo}
+use Rattle.solid_tours.specs.Tours.{edgesBetween, overNeighbours}
+use Rattle.solid_tours.specs.Work.{leastSquare}
+use Rattle.solid_tours.specs.Work.Kept.{EdgesOrdered, FacePlaces, RestPlaces, NextGroup, TourTo}
 use Rattle.solid_tours.proofs.EdgeLaws.{between-beyond}
 use Rattle.solid_tours.proofs.PlaceLaws.{readable}
 use Rattle.solid_tours.proofs.TourLaws.{tour-start, tour-more, tour-end, rest-all}

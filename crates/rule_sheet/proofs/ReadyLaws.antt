@@ -15,7 +15,7 @@ use Rattle.scratch.specs.Standing.{Standing}
 use Rattle.scratch.proofs.StandingLaws.{placed-polygons}
 use Rattle.solid_ranks.specs.Kept.{Ranked}
 use Rattle.solid_ranks.proofs.KeptLaws.{ranked-kept}
-use Rattle.solid_tours.specs.Kept.{EdgesPut}
+use Rattle.solid_tours.specs.Work.Kept.{EdgesPut}
 use Rattle.wall_samples.specs.Samples.{readingsOf}
 use Rattle.wall_samples.specs.Stored.{Readings}
 use Rattle.wall_samples.proofs.ReadingLaws.{readings-most, readings-kept}

@@ -20,8 +20,8 @@ use Rattle.scratch.specs.Regions.{Laid}
 use Rattle.scratch.specs.Standing.{Standing}
 use Rattle.solid_ranks.specs.Kept.{RanksPut}
 use Rattle.solid_ranks.proofs.KeptLaws.{sorts-only}
-use Rattle.solid_tours.specs.Kept.{EdgesOrdered}
-use Rattle.solid_tours.specs.Kept as tours
+use Rattle.solid_tours.specs.Work.Kept.{EdgesOrdered}
+use Rattle.solid_tours.specs.Work.Kept as tours
 use Rattle.wall_samples.specs.Stored.{Readings}
 use Rattle.wall_pairs.proofs.KeptLaws.{rounds-kept}
 use Rattle.round_all.specs.Kept.{Rounds}

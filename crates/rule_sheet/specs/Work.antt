@@ -14,7 +14,7 @@ use Rattle.solid_faces.specs.Faces.{facesOf, Checked}
 use Rattle.scratch.specs.declared.regions.Regions.{Regions}
 use Rattle.scratch.specs.Standing.{Standing}
 use Rattle.solid_ranks.specs.Kept.{Ranked}
-use Rattle.solid_tours.specs.Kept.{itemCount, EdgesOrdered}
+use Rattle.solid_tours.specs.Work.Kept.{itemCount, EdgesOrdered}
 use Rattle.wall_samples.specs.Samples.{readingsOf}
 use Rattle.wall_samples.specs.Stored.{Readings}
 use Rattle.round_all.specs.declared.round.Round.{Round}

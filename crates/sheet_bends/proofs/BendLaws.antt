@@ -17,8 +17,8 @@ use Rattle.scratch.specs.declared.regions.Regions.{Regions}
 use Rattle.scratch.specs.Standing.{Standing}
 use Rattle.solid_ranks.specs.Kept.{SortsOnly}
 use Rattle.solid_ranks.proofs.KeptLaws.{sorts-only, only-standing}
-use Rattle.solid_tours.specs.Kept.{EdgesOrdered}
-use Rattle.solid_tours.specs.Kept as tours
+use Rattle.solid_tours.specs.Work.Kept.{EdgesOrdered}
+use Rattle.solid_tours.specs.Work.Kept as tours
 use Rattle.solid_tours.proofs.KeptLaws.{ordered-kept}
 use Rattle.wall_pairs.proofs.KeptLaws.{rounds-kept}
 use Rattle.round_all.specs.Round.{isRound}

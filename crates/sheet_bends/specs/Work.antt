@@ -11,8 +11,8 @@ use Rattle.file_part.specs.Part.{partOf, Part}
 use Rattle.solid_faces.specs.Faces.{facesOf}
 use Rattle.solid_bodies.specs.Body.{someBelow}
 use Rattle.scratch.specs.declared.regions.Regions.{Regions}
-use Rattle.solid_tours.specs.Kept.{EdgesOrdered}
-use Rattle.solid_tours.specs.Kept as tours
+use Rattle.solid_tours.specs.Work.Kept.{EdgesOrdered}
+use Rattle.solid_tours.specs.Work.Kept as tours
 use Rattle.round_all.specs.Kept.{Rounds}
 use Rattle.sheet_bends.specs.declared.Sheet.{Sheet}
 use Rattle.sheet_bends.specs.Kept.{Bends, bendCell}

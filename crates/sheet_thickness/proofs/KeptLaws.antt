@@ -9,7 +9,7 @@ use Rattle.file_part.specs.Part.{partOf}
 use Rattle.scratch.specs.declared.regions.Regions.{Regions}
 use Rattle.scratch.specs.Standing.{Standing}
 use Rattle.solid_ranks.proofs.KeptLaws.{sorts-only, only-standing}
-use Rattle.solid_tours.specs.Kept.{EdgesOrdered}
+use Rattle.solid_tours.specs.Work.Kept.{EdgesOrdered}
 use Rattle.solid_tours.proofs.KeptLaws.{ordered-kept}
 use Rattle.wall_samples.specs.Stored.{Readings}
 use Rattle.wall_pairs.proofs.KeptLaws.{readings-kept}

@@ -14,7 +14,7 @@ use Rattle.file_part.specs.Part.{Part, partOf}
 use Rattle.solid_faces.specs.Faces.{polygonArea}
 use Rattle.scratch.specs.declared.regions.Regions.{Regions}
 use Rattle.scratch.specs.Standing.{Standing}
-use Rattle.solid_tours.specs.Kept.{EdgesOrdered}
+use Rattle.solid_tours.specs.Work.Kept.{EdgesOrdered}
 use Rattle.wall_samples.specs.Samples.{readingsOf}
 use Rattle.wall_samples.specs.Stored.{reading, Readings}
 use Rattle.wall_median.specs.Rough.{roughOf}

@@ -12,7 +12,8 @@ use Rattle.math.specs.declared.Vec3.{Vec3}
 use Rattle.math.specs.Vector.{minus, lengthSqOf}
 use Rattle.solid_distance.specs.declared.kept.Segment.{Segment}
 use Rattle.solid_distance.specs.Segment.{nearestOn}
-use Rattle.solid_distance.specs.Kept.{segmentOf, squareTo, segmentAt, putSegment}
+use Rattle.solid_distance.specs.Kept.{squareTo}
+use Rattle.solid_distance.specs.Work.{segmentOf, segmentAt, putSegment}
 
 -- the point of the segment that is nearest to p is as `nearestOn` has it
 pub square-is : (p a b : Vec3) → squareTo p (segmentOf a b) ≡ lengthSqOf (minus (nearestOn p a b) p)

@@ -1,33 +1,10 @@
 -- A segment as it is kept for many points. Definitions only.
-use mathlib.Core.List.{List}
-use Prim.Native.Nat.{ℕ, _+_}
-use lib.ListN.{getD, set}
-use lib.Ieee.{Float, nan}
+use lib.Ieee.{Float}
 use Rattle.math.specs.declared.Vec3.{Vec3}
-use Rattle.math.specs.Vector.{vec, plus, minus, times, lengthSqOf}
+use Rattle.math.specs.Vector.{plus, minus, times, lengthSqOf}
 use Rattle.solid_distance.specs.declared.kept.Segment.{Segment}
 use Rattle.solid_distance.specs.Segment.{along}
 
--- the segment from a to b
-unfoldable pub segmentOf : Vec3 → Vec3 → Segment
-segmentOf a b = record { start = a; way = minus b a; square = lengthSqOf (minus b a) }
-
--- the squared distance of p from it. `square-is` of the laws: from the segment from a to b it is that of `nearestOn`, the same f64
+-- the squared distance of p from a segment that is kept. `square-is` of the laws: from the segment from a to b it is that of `nearestOn`, the same f64
 unfoldable pub squareTo : Vec3 → Segment → Float
 squareTo p s = lengthSqOf (minus (plus (s .start) (times (s .way) (along p (s .start) (s .way) (s .square)))) p)
-
--- ---- in a list of numbers, seven from number i on: its start, the way to its end, and the square of its length
-unfoldable pub segmentAt : List Float → ℕ → Segment
-segmentAt l i =
-    record {
-      start = vec (getD l i nan) (getD l (i + 1) nan) (getD l (i + 2) nan);
-      way = vec (getD l (i + 3) nan) (getD l (i + 4) nan) (getD l (i + 5) nan);
-      square = getD l (i + 6) nan;
-    }
-
--- the numbers with s there
-unfoldable pub putSegment : List Float → ℕ → Segment → List Float
-putSegment l i s =
-    set (set (set (set (set (set (set l
-    i (s .start .x)) (i + 1) (s .start .y)) (i + 2) (s .start .z)) (i + 3) (s .way .x))
-    (i + 4) (s .way .y)) (i + 5) (s .way .z)) (i + 6) (s .square)

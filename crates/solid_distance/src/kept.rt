@@ -2,7 +2,8 @@
 ghost use mathlib.Core.Path.{_≡_};
 ghost use Prim.Native.Nat.{_+_, _≤_};
 ghost use lib.ListN.{length};
-ghost use Rattle.solid_distance.specs.Kept.{segmentOf, squareTo, segmentAt, putSegment};
+ghost use Rattle.solid_distance.specs.Kept.{squareTo};
+ghost use Rattle.solid_distance.specs.Work.{segmentOf, segmentAt, putSegment};
 use crate::segment::fraction_along;
 use math::Vec3;
 

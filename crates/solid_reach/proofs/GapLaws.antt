@@ -15,11 +15,11 @@ use Rattle.num_float.proofs.Tests.{contrary}
 use Rattle.num_float.proofs.Order.{lt-numbers, lt-le, le-trans, lt-le-trans, le-lt-trans, not-lt-le}
 use Rattle.num_float.proofs.Rounding.{finite-between}
 use Rattle.num_float.proofs.Sign.{square-nonneg, add-nonneg}
-use Rattle.num_order.specs.Factor.{sided}
+use Rattle.num_order.specs.Work.{sided}
 use Rattle.num_order.proofs.Sums.{add-le, sub-le, add-comm, add-number, sub-number, round-number}
 use Rattle.num_order.proofs.Products.{mul-le, nonzero-up, nonzero-down}
 use Rattle.math.specs.Vector.{zero, one}
-use Rattle.solid_reach.specs.Reach.{Spans, gapOf}
+use Rattle.solid_reach.specs.Work.{Spans, gapOf}
 
 -- ---- products and sums of numbers
 unlike-comm : (s t : Bool) → unlike s t ≡ unlike t s

@@ -9,7 +9,8 @@ use lib.ListN.{length, getD, set, length-set}
 use lib.Seq.{getD-set-same, getD-set-other}
 use lib.Ieee.{Float, nan, inf, fin, binary64, add, sub, mul, div, lt, eq, le, isNan, ofBits}
 use lib.Ieee.Scale.{finite}
-use Rattle.num_float.specs.Order.{lesser, greater}
+use Rattle.num_float.specs.Order.{lesser}
+use Rattle.num_float.specs.Work.{greater}
 use Rattle.num_float.specs.Sign.{plus-zero}
 use Rattle.num_float.proofs.Tests.{refuted, contrary}
 use Rattle.num_float.proofs.Order.{lt-trans, lt-irrefl, le-lt-trans, not-lt-le}
@@ -24,7 +25,7 @@ use Rattle.solid_distance.specs.declared.kept.Segment.{Segment}
 use Rattle.solid_distance.specs.Segment.{clampUnit, e-18, along}
 use Rattle.solid_distance.specs.Kept.{squareTo}
 use Rattle.solid_reach.specs.declared.reach.Reach.{Reach}
-use Rattle.solid_reach.specs.Reach.{pointOn, withPoint, withSegment, Spans, HoldsPoint, Holds, gapOf, gapSquare, reachAt, putReach}
+use Rattle.solid_reach.specs.Work.{pointOn, withPoint, withSegment, Spans, HoldsPoint, Holds, gapOf, gapSquare, reachAt, putReach}
 use Rattle.solid_reach.proofs.GapLaws.{Under, gap-under, sum-under, add-terms, point-terms, finite-number}
 
 -- ---- a point more

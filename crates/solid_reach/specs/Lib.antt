@@ -1,2 +1,2 @@
 -- Boxes around segments that are kept.
-pub mod Reach
+pub mod Work

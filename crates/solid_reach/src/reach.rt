@@ -2,8 +2,9 @@
 ghost use mathlib.Core.Path.{_≡_};
 ghost use Prim.Native.Nat.{_+_, _≤_};
 ghost use lib.ListN.{length};
-ghost use Rattle.num_float.specs.Order.{lesser, greater};
-ghost use Rattle.solid_reach.specs.Reach.{nowhere, withPoint, withSegment, gapOf, gapSquare, reachAt, putReach};
+ghost use Rattle.num_float.specs.Order.{lesser};
+ghost use Rattle.num_float.specs.Work.{greater};
+ghost use Rattle.solid_reach.specs.Work.{nowhere, withPoint, withSegment, gapOf, gapSquare, reachAt, putReach};
 use math::Vec3;
 use solid_distance::kept::Segment;
 

@@ -15,16 +15,16 @@ use Rattle.list_laws.specs.Region.{Outside}
 use Rattle.list_laws.proofs.Outside.{outside-none, outside-then, outside-wide}
 use Rattle.file_part.specs.Part.{Part, partOf}
 use Rattle.solid_distance.specs.declared.kept.Segment.{Segment}
-use Rattle.solid_distance.specs.Kept.{squareTo, segmentAt}
+use Rattle.solid_distance.specs.Kept.{squareTo}
+use Rattle.solid_distance.specs.Work.{segmentAt}
 use Rattle.solid_distance.proofs.KeptLaws.{segment-same}
 use Rattle.solid_reach.specs.declared.reach.Reach.{Reach}
-use Rattle.solid_reach.specs.Reach.{withSegment, Holds, gapSquare, reachAt, putReach}
+use Rattle.solid_reach.specs.Work.{withSegment, Holds, gapSquare, reachAt, putReach}
 use Rattle.solid_reach.proofs.ReachLaws.{no-nearer, with-new, with-old, put-same, put-kept, reach-same, holds-same}
-use Rattle.solid_edges.specs.Distance.{sideSquare}
+use Rattle.solid_edges.specs.Work.{sideSquare}
 use Rattle.scratch.specs.declared.regions.Regions.{Regions}
-use Rattle.solid_tours.specs.Tours.{leastSquare}
-use Rattle.solid_tours.specs.Kept.{itemCount, itemSide, edgeOrder, sidesAt, sideSegment, packedAt, boxCount, boxAt, OrderedTo, EdgesOrdered}
-use Rattle.solid_tours.specs.Work.{Around, RunEnd, isSpared, BoxesPut}
+use Rattle.solid_tours.specs.Work.{leastSquare, Around, RunEnd, isSpared, BoxesPut}
+use Rattle.solid_tours.specs.Work.Kept.{itemCount, itemSide, edgeOrder, sidesAt, sideSegment, packedAt, boxCount, boxAt, OrderedTo, EdgesOrdered}
 use Rattle.solid_tours.proofs.PlaceLaws.{most}
 use Rattle.solid_tours.proofs.PackLaws.{side-square, ordered-still}
 use Rattle.solid_tours.proofs.TourLaws.{order-long, least-spared}

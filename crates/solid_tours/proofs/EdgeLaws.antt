@@ -29,7 +29,8 @@ use Rattle.solid_edges.specs.Distance.{edgeDistance, betweenDistance}
 use Rattle.solid_edges.proofs.EdgeLaws.{other-below}
 use Rattle.solid_ranks.specs.Ranks.{rankOf, faceOfRank}
 use Rattle.solid_ranks.proofs.RankLaws.{rank-below, face-of-rank}
-use Rattle.solid_tours.specs.Tours.{edgesBetween, edgesOf, leastSquare, leastDistance}
+use Rattle.solid_tours.specs.Tours.{edgesBetween, edgesOf}
+use Rattle.solid_tours.specs.Work.{leastSquare, leastDistance}
 use Rattle.solid_tours.proofs.Passing.{passing-zero, passing-step, mem-passing, passing-mem}
 use Rattle.solid_tours.proofs.PlaceLaws.{edges-joined}
 use Rattle.solid_tours.proofs.LeastLaws.{least-number, least-beyond, least-distance}

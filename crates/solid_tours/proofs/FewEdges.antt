@@ -19,7 +19,7 @@ use Rattle.solid_segments.proofs.SharedLaws.{part-sides-alike}
 use Rattle.solid_edges.specs.Edges.{pairIn, isEdge}
 use Rattle.solid_edges.proofs.EdgeLaws.{edge-between}
 use Rattle.solid_ranks.proofs.RankLaws.{count-fewer-once}
-use Rattle.solid_tours.specs.Kept.{edgeSides, itemCount}
+use Rattle.solid_tours.specs.Work.Kept.{edgeSides, itemCount}
 
 -- ---- numbers that pass p, sent to different numbers that pass q
 count-step : (n : ℕ) (test : ℕ → Bool) → countBelow (suc n) test ≡ cond (test n) (suc (countBelow n test)) (countBelow n test)

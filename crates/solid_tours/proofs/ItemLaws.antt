@@ -26,7 +26,7 @@ use Rattle.solid_edges.proofs.EdgeLaws.{beyond-below, other-below}
 use Rattle.solid_ranks.specs.Ranks.{rankOf, faceOfRank}
 use Rattle.solid_ranks.proofs.RankLaws.{rank-below, rank-apart, face-of-rank, rank-of-face}
 use Rattle.solid_tours.specs.Tours.{edgesBetween}
-use Rattle.solid_tours.specs.Kept.{edgeSides, itemCount, itemSide, itemFace, itemOther, itemKey}
+use Rattle.solid_tours.specs.Work.Kept.{edgeSides, itemCount, itemSide, itemFace, itemOther, itemKey}
 use Rattle.solid_tours.proofs.Passing.{mem-passing, twiceTest, twice-passing}
 
 -- ---- an edge has two faces

@@ -15,7 +15,7 @@ use Rattle.solid_reach.proofs.ReachLaws.{reach-same, holds-same}
 use Rattle.scratch.specs.declared.regions.Regions.{Regions}
 use Rattle.scratch.proofs.StandingLaws.{placed-vertices, standing-kept}
 use Rattle.solid_ranks.proofs.KeptLaws.{ranked-kept}
-use Rattle.solid_tours.specs.Kept.{itemCount, itemSide, itemKey, edgeKeys, edgeOrder, sideSegment, packedAt, boxAt, OrderedTo}
+use Rattle.solid_tours.specs.Work.Kept.{itemCount, itemSide, itemKey, edgeKeys, edgeOrder, sideSegment, packedAt, boxAt, OrderedTo}
 use Rattle.solid_tours.proofs.FewEdges.{items-most}
 
 module _ (s : List ℕ) (at : Regions) (words words′ : List ℕ) (reals reals′ : List Float) {done boxes : ℕ} (o : OrderedTo s at words reals done boxes) (w : Outside 0 (at .readings) (at .ranks) words words′)

@@ -29,7 +29,7 @@ use Rattle.solid_distance.specs.Segment.{nearestOn}
 use Rattle.solid_edges.specs.Distance.{distanceTo}
 use Rattle.solid_edges.specs.Work.{sideSquare}
 use Rattle.solid_edges.proofs.DistanceLaws.{LeastSquare, least-none, least-near, least-past}
-use Rattle.solid_tours.specs.Tours.{leastSquare, leastDistance}
+use Rattle.solid_tours.specs.Work.{leastSquare, leastDistance}
 use Rattle.solid_tours.proofs.Passing.{passing-zero, passing-step, mem-passing, passing-mem}
 
 -- ---- squared lengths that are numbers: infinity, or finite with a plus sign

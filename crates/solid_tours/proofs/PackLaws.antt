@@ -19,14 +19,15 @@ use Rattle.file_part.proofs.PartLaws.{part-vertex}
 use Rattle.solid_faces.specs.Faces.{facesOf}
 use Rattle.solid_segments.specs.Sides.{toOf}
 use Rattle.solid_distance.specs.declared.kept.Segment.{Segment}
-use Rattle.solid_distance.specs.Kept.{segmentOf, squareTo, segmentAt, putSegment}
+use Rattle.solid_distance.specs.Kept.{squareTo}
+use Rattle.solid_distance.specs.Work.{segmentOf, segmentAt, putSegment}
 use Rattle.solid_distance.proofs.KeptLaws.{square-is, put-same, put-kept, segment-same}
-use Rattle.solid_reach.specs.Reach.{Holds, reachAt}
+use Rattle.solid_reach.specs.Work.{Holds, reachAt}
 use Rattle.solid_edges.specs.Work.{sideSquare}
 use Rattle.scratch.specs.declared.regions.Regions.{Regions}
 use Rattle.scratch.specs.Standing.{Standing}
 use Rattle.scratch.proofs.StandingLaws.{standing-kept}
-use Rattle.solid_tours.specs.Kept.{itemCount, itemSide, itemKey, edgeKeys, edgeOrder, sideSegment, packedAt, boxCount, boxAt, OrderedTo, EdgesSorted, EdgesPut, ItemAt}
+use Rattle.solid_tours.specs.Work.Kept.{itemCount, itemSide, itemKey, edgeKeys, edgeOrder, sideSegment, packedAt, boxCount, boxAt, OrderedTo, EdgesSorted, EdgesPut, ItemAt}
 use Rattle.solid_tours.specs.Work.{SortedPut, PackedPut, BoxesPut}
 use Rattle.solid_tours.proofs.PlaceLaws.{most}
 

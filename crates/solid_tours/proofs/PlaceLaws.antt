@@ -30,7 +30,7 @@ use Rattle.scratch.proofs.StandingLaws.{placed-polygons, placed-vertices}
 use Rattle.solid_ranks.specs.Ranks.{rankOf, faceOfRank}
 use Rattle.solid_ranks.proofs.RankLaws.{rank-below}
 use Rattle.solid_tours.specs.Tours.{edgesBetween, overNeighbours, edgesOf}
-use Rattle.solid_tours.specs.Kept.{itemCount, itemSide, itemKey, keyStart, edgeOrder, sidesAt, OrderedTo, FacePlaces, ItemAt}
+use Rattle.solid_tours.specs.Work.Kept.{itemCount, itemSide, itemKey, keyStart, edgeOrder, sidesAt, OrderedTo, FacePlaces, ItemAt}
 use Rattle.solid_tours.proofs.FewEdges.{items-most}
 use Rattle.solid_tours.proofs.ItemLaws.{item-side, rank-items}
 

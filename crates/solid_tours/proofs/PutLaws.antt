@@ -36,7 +36,7 @@ use Rattle.solid_ranks.specs.Ranks.{rankOf}
 use Rattle.solid_ranks.specs.Kept.{Ranked}
 use Rattle.solid_ranks.proofs.RankLaws.{rank-below}
 use Rattle.solid_ranks.proofs.KeptLaws.{ranked-kept}
-use Rattle.solid_tours.specs.Kept.{edgeSides, itemCount, itemSide, itemFace, itemOther, itemKey, edgeKeys, edgeOrder}
+use Rattle.solid_tours.specs.Work.Kept.{edgeSides, itemCount, itemSide, itemFace, itemOther, itemKey, edgeKeys, edgeOrder}
 use Rattle.solid_tours.specs.Work.{nearKey, farKey, EdgesTo, EdgePut, AllPut, SortedPut}
 use Rattle.solid_tours.proofs.Passing.{passing-more, passing-past}
 use Rattle.solid_tours.proofs.FewEdges.{items-most, items-room}

@@ -37,8 +37,9 @@ use Rattle.solid_ranks.specs.Ranks.{rankOf, faceOfRank}
 use Rattle.solid_ranks.proofs.RankLaws.{rank-below, rank-apart, face-of-rank}
 use Rattle.solid_tours.specs.declared.tour.Places.{Places}
 use Rattle.solid_tours.specs.declared.tour.Group.{Group}
-use Rattle.solid_tours.specs.Tours.{edgesBetween, overNeighbours, leastSquare, leastDistance}
-use Rattle.solid_tours.specs.Kept.{itemCount, itemSide, itemFace, itemOther, itemKey, keyStart, edgeKeys, edgeOrder, sidesAt, sideSegment, EdgesOrdered, FacePlaces, RestPlaces, GroupPlaces, NextGroup, TourTo, ItemAt}
+use Rattle.solid_tours.specs.Tours.{edgesBetween, overNeighbours}
+use Rattle.solid_tours.specs.Work.{leastSquare, leastDistance}
+use Rattle.solid_tours.specs.Work.Kept.{itemCount, itemSide, itemFace, itemOther, itemKey, keyStart, edgeKeys, edgeOrder, sidesAt, sideSegment, EdgesOrdered, FacePlaces, RestPlaces, GroupPlaces, NextGroup, TourTo, ItemAt}
 use Rattle.solid_tours.proofs.ItemLaws.{face-inside, other-inside, item-leads, between-items, rank-items}
 use Rattle.solid_tours.proofs.ItemLaws as items
 use Rattle.solid_tours.proofs.PlaceLaws.{part-keys, readable, most, item-below, start-mono-key, start-inside, in-group, row-inside}

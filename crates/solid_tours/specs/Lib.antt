@@ -1,4 +1,3 @@
 -- The edges of each face, in order.
 pub mod Tours
-pub mod Kept
 pub mod Work

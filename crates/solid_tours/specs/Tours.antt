@@ -1,19 +1,13 @@
 -- The edges of each face, by rising ids of the faces that they lead to, and in the order of the shared segments where they lead to one face.
 -- Definitions only. An edge has the number of the first of its two sides, as in crate solid_edges, whose definitions these follow: `edgesBetween`
--- begins with `firstBetween`, `neighboursOf` is `neighbourAt` asked from 0 on, and the distances are `edgeDistance` and `betweenDistance`.
-use mathlib.Core.Bool.{false}
+-- begins with `firstBetween`, and `neighboursOf` is `neighbourAt` asked from 0 on.
 use mathlib.Core.List.{List, [], _∷_}
 use Prim.Native.Nat.{ℕ}
-use lib.Ieee.{Float, inf}
-use Rattle.num_float.specs.Order.{lesser}
-use Rattle.num_root.specs.Root.{root}
-use Rattle.math.specs.declared.Vec3.{Vec3}
 use Rattle.list_groups.specs.Groups.{joined, unlessEmpty, passing}
 use Rattle.file_part.specs.Part.{Part}
 use Rattle.solid_faces.specs.Faces.{facesOf}
 use Rattle.solid_ranks.specs.Ranks.{faceOfRank}
 use Rattle.solid_edges.specs.Edges.{isBetween}
-use Rattle.solid_edges.specs.Work.{sideSquare}
 
 -- the edges between faces f and g, in the order of the shared segments
 unfoldable pub edgesBetween : Part → ℕ → ℕ → List ℕ
@@ -31,13 +25,3 @@ neighboursOf t f = overNeighbours t f (λ g l. g ∷ [])
 -- all edges of face f
 unfoldable pub edgesOf : Part → ℕ → List ℕ
 edgesOf t f = overNeighbours t f (λ g l. l)
-
--- ---- distances
--- the least of x and the squared distances of point p from these edges
-unfoldable pub leastSquare : Part → Vec3 → Float → List ℕ → Float
-leastSquare t p x [] = x
-leastSquare t p x (s ∷ l) = leastSquare t p (lesser x (sideSquare t p s)) l
-
--- the least distance of point p from these edges; infinity from none
-unfoldable pub leastDistance : Part → Vec3 → List ℕ → Float
-leastDistance t p l = root (leastSquare t p (inf false) l)

@@ -1,25 +1,40 @@
 -- What the functions of this crate leave on the way. A reader may pass over it.
+pub mod Kept
+use mathlib.Core.Bool.{false, Bool, not, cond}
+use mathlib.Core.List.{List, [], _∷_}
 use mathlib.Core.Path.{_≡_}
-use mathlib.Core.Bool.{Bool, false, not, cond}
-use mathlib.Core.List.{List}
 use Prim.Native.Nat.{ℕ, _+_, _*_, _≤_, _<_}
+use lib.Ieee.{Float, inf, nan, lt}
 use lib.Dec.{ltb}
-use lib.Ieee.{Float, nan, lt}
 use lib.ListN.{length, getD}
+use Rattle.num_float.specs.Order.{lesser}
+use Rattle.num_root.specs.Root.{root}
 use Rattle.math.specs.declared.Vec3.{Vec3}
 use Rattle.list_laws.specs.Region.{Outside}
 use Rattle.list_groups.specs.Groups.{passing}
 use Rattle.list_groups.specs.Work.{WholeIs}
 use Rattle.file_part.specs.Part.{Part, partOf}
 use Rattle.solid_faces.specs.Faces.{facesOf}
-use Rattle.solid_distance.specs.Kept.{segmentAt}
+use Rattle.solid_distance.specs.Work.{segmentAt}
 use Rattle.solid_reach.specs.declared.reach.Reach.{Reach}
-use Rattle.solid_reach.specs.Reach.{Holds, gapSquare, reachAt}
+use Rattle.solid_reach.specs.Work.{Holds, gapSquare, reachAt}
 use Rattle.solid_edges.specs.Edges.{faceOfSide, faceBeyond, isEdge}
+use Rattle.solid_edges.specs.Work.{sideSquare}
 use Rattle.scratch.specs.declared.regions.Regions.{Regions}
 use Rattle.solid_ranks.specs.Ranks.{rankOf}
-use Rattle.solid_tours.specs.Kept.{itemCount, packedAt, OrderedTo, EdgesSorted}
+use Rattle.solid_tours.specs.Work.Kept.{itemCount, packedAt, OrderedTo, EdgesSorted}
 
+-- ---- distances
+-- the least of x and the squared distances of point p from these edges
+unfoldable pub leastSquare : Part → Vec3 → Float → List ℕ → Float
+leastSquare t p x [] = x
+leastSquare t p x (s ∷ l) = leastSquare t p (lesser x (sideSquare t p s)) l
+
+-- the least distance of point p from these edges; infinity from none
+unfoldable pub leastDistance : Part → Vec3 → List ℕ → Float
+leastDistance t p l = root (leastSquare t p (inf false) l)
+
+-- ---- on the way
 -- the keys of an edge under its own face, and under the face beyond
 unfoldable pub nearKey : Part → ℕ → ℕ
 nearKey t s = rankOf t (faceOfSide t s) * facesOf t + rankOf t (faceBeyond t s)

@@ -4,7 +4,7 @@ ghost use Prim.Native.Nat.{_+_, _*_, _≤_, _<_};
 ghost use lib.ListN.{length};
 ghost use Rattle.file_part.specs.Part.{partOf};
 ghost use Rattle.scratch.specs.Regions.{Laid};
-ghost use Rattle.solid_tours.specs.Kept.{itemCount, boxCount, OrderedTo};
+ghost use Rattle.solid_tours.specs.Work.Kept.{itemCount, boxCount, OrderedTo};
 ghost use Rattle.solid_tours.specs.Work.{Around, RunEnd, isSpared, BoxesPut};
 use math::Vec3;
 use scratch::regions::Regions;

@@ -10,7 +10,7 @@ ghost use Rattle.solid_faces.specs.Faces.{facesOf};
 ghost use Rattle.solid_edges.specs.Edges.{isEdge};
 ghost use Rattle.scratch.specs.Standing.{Standing};
 ghost use Rattle.solid_ranks.specs.Kept.{Ranked};
-ghost use Rattle.solid_tours.specs.Kept.{EdgesPut};
+ghost use Rattle.solid_tours.specs.Work.Kept.{EdgesPut};
 ghost use Rattle.solid_tours.specs.Work.{EdgePut, AllPut, SortedPut};
 use crate::boxes::put_boxes;
 use crate::pack::pack_edges;

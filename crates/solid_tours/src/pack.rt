@@ -2,7 +2,7 @@
 ghost use mathlib.Core.Path.{_≡_};
 ghost use Prim.Native.Nat.{_+_, _<_};
 ghost use Rattle.file_part.specs.Part.{partOf};
-ghost use Rattle.solid_tours.specs.Kept.{itemCount, OrderedTo, EdgesSorted};
+ghost use Rattle.solid_tours.specs.Work.Kept.{itemCount, OrderedTo, EdgesSorted};
 ghost use Rattle.solid_tours.specs.Work.{PackedPut};
 use crate::tour::item_at;
 use file_part::read::vertex;

@@ -46,8 +46,7 @@ use Rattle.dfm_core.specs.declared.answer.Answer.{Answer}
 use Rattle.dfm_core.specs.declared.halves.Findings.{Findings}
 use Rattle.fault_row.specs.Row.{rowAt, rowRoom}
 use Rattle.fault_rows.specs.Rows.{painted, wiped, Taken}
-use Rattle.dfm_core.specs.Answer.{wipeFrom}
-use Rattle.dfm_core.specs.Work.{Ready, Finding, Ended}
+use Rattle.dfm_core.specs.Work.{wipeFrom, Ready, Finding, Ended}
 use Rattle.dfm_core.proofs.AnswerLaws.{wipe-fits}
 use Rattle.dfm.specs.Check.{Outcome}
 use Rattle.dfm.proofs.OutcomeLaws.{faults-fit, ready-taken, outcome}

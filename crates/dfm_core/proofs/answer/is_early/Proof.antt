@@ -1,6 +1,6 @@
 -- `dfm_core::answer::is_early` meets its contract.
 use mathlib.Core.Path.{refl}
-use Rattle.dfm_core.specs.Answer.{isEarly}
+use Rattle.dfm_core.specs.Work.{isEarly}
 use Rattle.dfm_core.proofs.answer.is_early.Statement.{statement}
 use Rattle.dfm_core.proofs.answer.is_early.Tie as tie
 

@@ -3,7 +3,7 @@ use borrow.Author.Needs.{needs}
 use mathlib.Core.Path.{refl}
 use lib.ListN.{length-set}
 use native.Mathlib.Omega.{arith}
-use Rattle.solid_distance.specs.Kept.{putSegment}
+use Rattle.solid_distance.specs.Work.{putSegment}
 use Rattle.solid_distance.proofs.kept.put_segment.Statement.{statement}
 use Rattle.solid_distance.proofs.kept.put_segment.Tie as tie
 

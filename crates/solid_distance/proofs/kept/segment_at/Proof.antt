@@ -1,7 +1,7 @@
 -- `solid_distance::kept::segment_at` meets its contract.
 use borrow.Author.Needs.{needs}
 use mathlib.Core.Path.{refl}
-use Rattle.solid_distance.specs.Kept.{segmentAt}
+use Rattle.solid_distance.specs.Work.{segmentAt}
 use Rattle.solid_distance.proofs.kept.segment_at.Statement.{statement}
 use Rattle.solid_distance.proofs.kept.segment_at.Tie as tie
 

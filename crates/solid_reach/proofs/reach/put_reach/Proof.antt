@@ -3,7 +3,7 @@ use borrow.Author.Needs.{needs}
 use mathlib.Core.Path.{refl}
 use lib.ListN.{length-set}
 use native.Mathlib.Omega.{arith}
-use Rattle.solid_reach.specs.Reach.{putReach}
+use Rattle.solid_reach.specs.Work.{putReach}
 use Rattle.solid_reach.proofs.reach.put_reach.Statement.{statement}
 use Rattle.solid_reach.proofs.reach.put_reach.Tie as tie
 

@@ -1,7 +1,7 @@
 -- `solid_reach::reach::reach_at` meets its contract.
 use borrow.Author.Needs.{needs}
 use mathlib.Core.Path.{refl}
-use Rattle.solid_reach.specs.Reach.{reachAt}
+use Rattle.solid_reach.specs.Work.{reachAt}
 use Rattle.solid_reach.proofs.reach.reach_at.Statement.{statement}
 use Rattle.solid_reach.proofs.reach.reach_at.Tie as tie
 

@@ -3,7 +3,7 @@ use borrow.Author.Needs.{needs}
 use mathlib.Core.Path.{ap, _∙_}
 use lib.Ieee.{nanBits}
 use Rattle.file_part.specs.Part.{partOf}
-use Rattle.solid_tours.specs.Tours.{leastDistance}
+use Rattle.solid_tours.specs.Work.{leastDistance}
 use Rattle.solid_tours.proofs.TourLaws.{least-end}
 use Rattle.solid_tours.proofs.EdgeLaws.{between-least}
 use native.Mathlib.Omega.{arith}

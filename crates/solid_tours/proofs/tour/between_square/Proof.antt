@@ -1,7 +1,7 @@
 -- `solid_tours::tour::between_square` meets its contract: over its places.
 use borrow.Author.Needs.{needs}
 use mathlib.Core.Path.{ap, _∙_}
-use Rattle.solid_tours.specs.Tours.{leastSquare}
+use Rattle.solid_tours.specs.Work.{leastSquare}
 use native.Mathlib.Omega.{arith}
 use Rattle.solid_tours.proofs.tour.between_square.Statement.{statement}
 use Rattle.solid_tours.proofs.tour.between_square.Tie as tie

@@ -3,8 +3,8 @@ use borrow.Author.Needs.{needs}
 use mathlib.Core.Path.{_≡_}
 use Prim.Native.Nat.{_-_, _≤_}
 use Rattle.file_part.specs.Part.{partOf}
-use Rattle.solid_tours.specs.Tours.{leastSquare}
-use Rattle.solid_tours.specs.Kept.{sidesAt}
+use Rattle.solid_tours.specs.Work.{leastSquare}
+use Rattle.solid_tours.specs.Work.Kept.{sidesAt}
 use Rattle.solid_tours.proofs.PlaceLaws.{most}
 use Rattle.solid_tours.proofs.PackLaws.{packed-inside}
 use Rattle.solid_tours.proofs.TourLaws.{order-long, least-start, least-next, least-stop}

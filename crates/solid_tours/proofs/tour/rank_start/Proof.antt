@@ -3,7 +3,7 @@ use Prim.Native.Nat.{_*_, _-_, _≤_}
 use native.Mathlib.Nat.{le-antisymm}
 use Rattle.file_part.specs.Part.{partOf}
 use Rattle.solid_faces.specs.Faces.{facesOf}
-use Rattle.solid_tours.specs.Kept.{itemCount, keyStart}
+use Rattle.solid_tours.specs.Work.Kept.{itemCount, keyStart}
 use Rattle.solid_tours.proofs.PlaceLaws.{few, most, start-inside, start-above, start-below, goal-inside, goal-is}
 use native.Mathlib.Omega.{arith}
 use Rattle.solid_tours.proofs.tour.rank_start.Statement.{statement}

@@ -1,6 +1,6 @@
 -- `solid_distance::kept::Segment::new` meets its contract.
 use borrow.Author.Needs.{needs}
-use Rattle.solid_distance.specs.Kept.{segmentOf}
+use Rattle.solid_distance.specs.Work.{segmentOf}
 use Rattle.solid_distance.proofs.kept.Segment.new.Statement.{statement}
 use Rattle.solid_distance.proofs.kept.Segment.new.Tie as tie
 

@@ -1,5 +1,5 @@
 -- `solid_reach::reach::Reach::gap_square` meets its contract.
-use Rattle.solid_reach.specs.Reach.{gapSquare}
+use Rattle.solid_reach.specs.Work.{gapSquare}
 use Rattle.solid_reach.proofs.reach.Reach.gap_square.Statement.{statement}
 use Rattle.solid_reach.proofs.reach.Reach.gap_square.Tie as tie
 

@@ -2,7 +2,7 @@
 use borrow.Author.Needs.{needs}
 use mathlib.Core.Path.{refl}
 use lib.Ieee.{nanBits}
-use Rattle.solid_reach.specs.Reach.{nowhere}
+use Rattle.solid_reach.specs.Work.{nowhere}
 use Rattle.solid_reach.proofs.reach.Reach.none.Statement.{statement}
 use Rattle.solid_reach.proofs.reach.Reach.none.Tie as tie
 

@@ -1,5 +1,5 @@
 -- `solid_reach::reach::Reach::with_point` meets its contract.
-use Rattle.solid_reach.specs.Reach.{withPoint}
+use Rattle.solid_reach.specs.Work.{withPoint}
 use Rattle.solid_reach.proofs.reach.Reach.with_point.Statement.{statement}
 use Rattle.solid_reach.proofs.reach.Reach.with_point.Tie as tie
 

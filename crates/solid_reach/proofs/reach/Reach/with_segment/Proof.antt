@@ -1,5 +1,5 @@
 -- `solid_reach::reach::Reach::with_segment` meets its contract.
-use Rattle.solid_reach.specs.Reach.{pointOn, withSegment}
+use Rattle.solid_reach.specs.Work.{pointOn, withSegment}
 use Rattle.solid_reach.proofs.reach.Reach.with_segment.Statement.{statement}
 use Rattle.solid_reach.proofs.reach.Reach.with_segment.Tie as tie
 

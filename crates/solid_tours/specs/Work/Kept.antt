@@ -1,4 +1,4 @@
--- The edges of each face in the lent scratch. Definitions only.
+-- The edges of each face in the lent scratch. A reader may pass over it. Definitions only.
 use mathlib.Core.Path.{_≡_}
 use mathlib.Core.Bool.{true, cond}
 use mathlib.Core.List.{List, map}
@@ -13,8 +13,8 @@ use Rattle.file_part.specs.Part.{Part, partOf}
 use Rattle.solid_faces.specs.Faces.{facesOf}
 use Rattle.solid_segments.specs.Sides.{toOf}
 use Rattle.solid_distance.specs.declared.kept.Segment.{Segment}
-use Rattle.solid_distance.specs.Kept.{segmentOf, segmentAt}
-use Rattle.solid_reach.specs.Reach.{Holds, reachAt}
+use Rattle.solid_distance.specs.Work.{segmentOf, segmentAt}
+use Rattle.solid_reach.specs.Work.{Holds, reachAt}
 use Rattle.solid_edges.specs.Edges.{faceOfSide, faceBeyond, isEdge}
 use Rattle.scratch.specs.declared.regions.Regions.{Regions}
 use Rattle.scratch.specs.Standing.{Standing}

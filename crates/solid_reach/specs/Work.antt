@@ -1,16 +1,18 @@
--- The box of some segments. Definitions only. No distance is defined by it: `no-nearer` of the laws says which distances it spares.
+-- What private functions leave on the way; a reader may pass over it. Definitions only.
 use mathlib.Core.Path.{_≡_}
 use mathlib.Core.Bool.{false, cond}
 use mathlib.Core.List.{List}
 use Prim.Native.Nat.{ℕ, _+_}
 use lib.ListN.{getD, set}
 use lib.Ieee.{Float, nan, binary64, sub, lt, ofBits}
-use Rattle.num_float.specs.Order.{lesser, greater}
+use Rattle.num_float.specs.Order.{lesser}
+use Rattle.num_float.specs.Work.{greater}
 use Rattle.math.specs.declared.Vec3.{Vec3}
 use Rattle.math.specs.Vector.{vec, zero, one, plus, times, lengthSqOf}
 use Rattle.solid_distance.specs.declared.kept.Segment.{Segment}
 use Rattle.solid_reach.specs.declared.reach.Reach.{Reach}
 
+-- ---- the box of some segments. No distance is defined by it: `no-nearer` of the laws says which distances it spares.
 -- the point of a segment at the fraction t of its way
 unfoldable pub pointOn : Segment → Float → Vec3
 pointOn s t = plus (s .start) (times (s .way) t)
