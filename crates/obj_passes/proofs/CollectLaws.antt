@@ -1,113 +1,30 @@
 -- The second pass, line by line.
 use mathlib.Core.Path.{_≡_, refl, sym, ap, _∙_, subst}
-use mathlib.Core.Bool.{Bool, true, false, _&&_, cond}
+use mathlib.Core.Bool.{Bool, true, false, cond}
 use mathlib.Core.List.{List, [], _∷_, _++_, map}
 use Prim.Native.Nat.{ℕ, suc, _+_, _*_, _≤_, _<_, _^_}
 use native.Mathlib.Nat.{add-zero, zero-add, le-trans, le-of-eq}
 use native.Mathlib.Omega.{arith}
-use lib.Dec.{eqb, leb, ltb}
-use lib.ListN.{length, drop, length-map, length-append}
+use lib.Dec.{leb}
+use lib.ListN.{length, drop, getD, length-map, length-append}
 use lib.Seq.{sets, length-sets}
-use borrow.Author.Tests.{leb-true}
 use Rattle.math.specs.declared.Vec3.{Vec3}
 use Rattle.num_text.specs.Put.{over, Put}
 use Rattle.num_text.proofs.PutLaws.{over-append, put-none, put-length, put-measures}
-use Rattle.obj_number.specs.Cut.{before}
-use Rattle.obj_number.specs.Whole.{isWhole, valueOf, capped}
-use Rattle.obj_number.specs.Decimal.{isDecimal, decimalOf}
+use Rattle.obj_number.specs.Whole.{valueOf, capped}
 use Rattle.obj_line.specs.declared.line.Corners.{Corners}
 use Rattle.obj_line.specs.declared.line.Line.{Line}
 use Rattle.obj_line.specs.declared.line.Line.the-variants as Line
-use Rattle.obj_line.specs.Split.{fieldsOf}
-use Rattle.obj_line.specs.Form.{Form, vertex, face, group, skipped, other, allPositive, vertexForm, faceForm, groupForm, fieldsForm, formOf, lineOf}
+use Rattle.obj_line.specs.Form.{Form, vertex, face, group, skipped, other, allPositive, formOf, largest, lineOf}
 use Rattle.obj_line.specs.Work.{fieldsAfter}
-use Rattle.obj_line.proofs.SplitLaws.{fields-are}
-use Rattle.obj_text.specs.Text.{formsOf, facesFrom, facesOf, cornersFrom, cornersOf}
+use Rattle.obj_text.specs.Text.{formsOf, refusalFrom, lineRefusal, facesFrom, facesOf, cornersFrom, cornersOf}
 use Rattle.obj_tables.specs.Tables.{cellOf, Pushed}
 use Rattle.obj_part.specs.Bytes.{le32, entryBytes}
 use Rattle.obj_part.specs.File.{entriesFrom}
 use Rattle.obj_passes.specs.declared.collect.Run.{Run}
-use Rattle.obj_passes.specs.Work.{numbersOf, indexAfter, entryOf, CollectedLine}
+use Rattle.obj_passes.specs.Work.{Formed, numbersOf, indexAfter, entryOf, CollectedLine}
 use Rattle.obj_passes.specs.Passes.{Collected}
-
-and-left : (a b : Bool) → (a && b) ≡ true → a ≡ true
-and-left true b h = refl
-and-left false b h = h
-
-and-right : (a b : Bool) → (a && b) ≡ true → b ≡ true
-and-right true b h = h
-and-right false true h = refl
-and-right false false h = h
-
--- ---- a face's numbers are its line's fields
-record FaceTold (fs : List (List ℕ)) (ns : List ℕ) : Type 0 where
-  positive : allPositive fs ≡ true
-  values : ns ≡ map valueOf fs
-  few : length ns ≤ 64
-
-unfoldable Told : List (List ℕ) → Form → Type 0
-Told fs (vertex v) = Unit {0}
-Told fs (face ns) = FaceTold fs ns
-Told fs (group i) = Unit {0}
-Told fs skipped = Unit {0}
-Told fs other = Unit {0}
-
-told-if : (fs : List (List ℕ)) (b : Bool) (f : Form) → (b ≡ true → Told fs f) → Told fs (cond b f other)
-unfolding Told
-told-if fs true f h = h refl
-told-if fs false f h = tt
-
-face-told : (fs : List (List ℕ)) → Told fs (faceForm fs)
-unfolding faceForm Told
-face-told fs = told-if fs (allPositive fs && leb 3 (length fs) && leb (length fs) 64) (face (map valueOf fs)) given
-  where
-    given : (allPositive fs && leb 3 (length fs) && leb (length fs) 64) ≡ true → FaceTold fs (map valueOf fs)
-    given h =
-        let both = and-left (allPositive fs && leb 3 (length fs)) (leb (length fs) 64) h in
-        let most : length fs ≤ 64 = leb-true (length fs) 64 (and-right (allPositive fs && leb 3 (length fs)) (leb (length fs) 64) h) in
-        record {
-          positive = and-left (allPositive fs) (leb 3 (length fs)) both;
-          values = refl;
-          few = le-trans (le-of-eq (length-map fs valueOf)) most;
-        }
-
-vertex-told : (gs fs : List (List ℕ)) → Told gs (vertexForm fs)
-unfolding vertexForm Told
-vertex-told gs [] = tt
-vertex-told gs (x ∷ []) = tt
-vertex-told gs (x ∷ y ∷ []) = tt
-vertex-told gs (x ∷ y ∷ z ∷ []) =
-    told-if gs (isDecimal x && isDecimal y && isDecimal z) (vertex record { x = decimalOf x; y = decimalOf y; z = decimalOf z }) (λ h. tt)
-vertex-told gs (x ∷ y ∷ z ∷ w ∷ fs) = tt
-
-group-told : (gs fs : List (List ℕ)) → Told gs (groupForm fs)
-unfolding groupForm Told
-group-told gs [] = tt
-group-told gs (n ∷ []) = told-if gs (isWhole n && ltb (valueOf n) (2 ^ 32)) (group (valueOf n)) (λ h. tt)
-group-told gs (n ∷ m ∷ fs) = tt
-
-fields-told : (rest : ℕ → List (List ℕ)) (w : List ℕ) → Told (rest 1) (fieldsForm (w ∷ rest (length w)))
-unfolding fieldsForm Told
-fields-told rest [] = tt
-fields-told rest (b ∷ []) = go (eqb b 118) (eqb b 102) (eqb b 103)
-  where
-    go : (v f g : Bool) → Told (rest 1) (cond v (vertexForm (rest 1)) (cond f (faceForm (rest 1)) (cond g (groupForm (rest 1)) other)))
-    go true f g = vertex-told (rest 1) (rest 1)
-    go false true g = face-told (rest 1)
-    go false false true = group-told (rest 1) (rest 1)
-    go false false false = tt
-fields-told rest (b ∷ c ∷ w) = tt
-
-form-told : (l : List ℕ) → Told (fieldsAfter (drop 1 l)) (formOf l)
-unfolding formOf Told
-form-told [] = tt
-form-told (b ∷ l) = go (eqb b 35)
-  where
-    go : (t : Bool) → Told (fieldsAfter l) (cond t skipped (fieldsForm (fieldsOf (b ∷ l))))
-    go true = tt
-    go false =
-        subst (λ (fs : List (List ℕ)). Told (fieldsAfter l) (fieldsForm fs)) (sym (fields-are (b ∷ l)))
-        (fields-told (λ (k : ℕ). fieldsAfter (drop k (b ∷ l))) (before 32 (b ∷ l)))
+use Rattle.obj_passes.proofs.KindLaws.{Told, form-told, Kind, form-kind}
 
 -- ---- what a line adds, as the code has it
 map-cells : (fs : List (List ℕ)) → map cellOf fs ≡ map capped (map valueOf fs)
@@ -115,109 +32,136 @@ unfolding cellOf
 map-cells [] = refl
 map-cells (f ∷ fs) = ap (λ (l : List ℕ). capped (valueOf f) ∷ l) (map-cells fs)
 
-pub record FaceIs (fs : List (List ℕ)) (f : Form) (c : Corners) : Type 0 where
+pub record FaceIs (fs : List (List ℕ)) (f : Form) : Type 0 where
   pub positive : allPositive fs ≡ true
-  pub count-fields : length fs ≡ length (numbersOf f)
-  pub count-is : c .count ≡ length (numbersOf f)
-  pub few : c .count ≤ 64
+  pub count-is : length fs ≡ length (numbersOf f)
+  pub few : length fs ≤ 64
   pub cells : map cellOf fs ≡ map capped (numbersOf f)
   pub index-same : (i : ℕ) → indexAfter i f ≡ i
   pub entry-is : (i first : ℕ) → entryOf i first f ≡ entryBytes i first (length (numbersOf f))
 
-clash : {A : Type 0} → _≡_ {A = ℕ} 0 1 → A
-clash z = absurd (omega arith)
-
-face-from : (fs : List (List ℕ)) (f : Form) (c : Corners) → Told fs f → lineOf f ≡ Line.Face c → FaceIs fs f c
-unfolding Told lineOf numbersOf indexAfter entryOf
-face-from fs (vertex v) c t e = clash cc
-face-from fs (face ns) c t e =
-    let count : c .count ≡ length ns = cc in
+face-from : (fs : List (List ℕ)) (b : ℕ) (f : Form) → b ≡ 102 → Told fs f → Kind b f → Formed f → FaceIs fs f
+unfolding Told Kind Formed numbersOf indexAfter entryOf
+face-from fs b (vertex v) e t k g = absurd (omega arith)
+face-from fs b (face ns) e t k g =
+    let count : length fs ≡ length ns = sym (ap length (t .values) ∙ length-map fs valueOf) in
     record {
       positive = t .positive;
-      count-fields = sym (ap length (t .values) ∙ length-map fs valueOf);
       count-is = count;
       few = le-trans (le-of-eq count) (t .few);
       cells = map-cells fs ∙ ap (map capped) (sym (t .values));
       index-same = λ i. refl;
       entry-is = λ i first. refl;
     }
-face-from fs (group i) c t e = clash cc
-face-from fs skipped c t e = clash cc
-face-from fs other c t e = clash cc
+face-from fs b (group i) e t k g = absurd (omega arith)
+face-from fs b skipped e t k g = absurd (k e)
+face-from fs b other e t k g = absurd (g refl)
 
-pub face-is : (l : List ℕ) (line : Line) (c : Corners) → line ≡ lineOf (formOf l) → line ≡ Line.Face c → FaceIs (fieldsAfter (drop 1 l)) (formOf l) c
-face-is l line c e k = face-from (fieldsAfter (drop 1 l)) (formOf l) c (form-told l) (sym e ∙ k)
+pub face-is : (l : List ℕ) → getD l 0 0 ≡ 102 → Formed (formOf l) → FaceIs (fieldsAfter (drop 1 l)) (formOf l)
+face-is l e g = face-from (fieldsAfter (drop 1 l)) (getD l 0 0) (formOf l) e (form-told l) (form-kind l) g
 
-record Plain (s : Run) (f : Form) (i : ℕ) : Type 0 where
+record NoFace (f : Form) : Type 0 where
   no-numbers : numbersOf f ≡ []
-  index-is : indexAfter (s .index) f ≡ i
-  no-entry : entryOf (s .index) (s .used) f ≡ []
+  no-entry : (i first : ℕ) → entryOf i first f ≡ []
 
-plain-vertex : (s : Run) (f : Form) (v : Vec3) → lineOf f ≡ Line.Vertex v → Plain s f (s .index)
-unfolding lineOf numbersOf indexAfter entryOf
-plain-vertex s (vertex v) w e = record { no-numbers = refl; index-is = refl; no-entry = refl }
-plain-vertex s (face ns) w e = clash cc
-plain-vertex s (group i) w e = clash cc
-plain-vertex s skipped w e = clash cc
-plain-vertex s other w e = clash cc
+no-face : (b : ℕ) (f : Form) → Kind b f → (b ≡ 102 → ⊥) → NoFace f
+unfolding Kind numbersOf entryOf
+no-face b (vertex v) k h = record { no-numbers = refl; no-entry = λ i first. refl }
+no-face b (face ns) k h = absurd (h k)
+no-face b (group i) k h = record { no-numbers = refl; no-entry = λ i first. refl }
+no-face b skipped k h = record { no-numbers = refl; no-entry = λ i first. refl }
+no-face b other k h = record { no-numbers = refl; no-entry = λ i first. refl }
 
-plain-group : (s : Run) (f : Form) (n : ℕ) → lineOf f ≡ Line.Group n → Plain s f n
-unfolding lineOf numbersOf indexAfter entryOf
-plain-group s (vertex v) n e = clash cc
-plain-group s (face ns) n e = clash cc
-plain-group s (group i) n e = record { no-numbers = refl; index-is = cc; no-entry = refl }
-plain-group s skipped n e = clash cc
-plain-group s other n e = clash cc
+no-group : (b i : ℕ) (f : Form) → Kind b f → (b ≡ 103 → ⊥) → i ≡ indexAfter i f
+unfolding Kind indexAfter
+no-group b i (vertex v) k h = refl
+no-group b i (face ns) k h = refl
+no-group b i (group j) k h = absurd (h k)
+no-group b i skipped k h = refl
+no-group b i other k h = refl
 
-plain-skipped : (s : Run) (f : Form) → lineOf f ≡ Line.Skipped → Plain s f (s .index)
-unfolding lineOf numbersOf indexAfter entryOf
-plain-skipped s (vertex v) e = clash cc
-plain-skipped s (face ns) e = clash cc
-plain-skipped s (group i) e = clash cc
-plain-skipped s skipped e = record { no-numbers = refl; index-is = refl; no-entry = refl }
-plain-skipped s other e = clash cc
+first-none : (l : List ℕ) → length l ≡ 0 → getD l 0 0 ≡ 0
+first-none [] h = refl
+first-none (b ∷ l) h = absurd (omega arith)
 
-plain-other : (s : Run) (f : Form) → lineOf f ≡ Line.Other → Plain s f (s .index)
-unfolding lineOf numbersOf indexAfter entryOf
-plain-other s (vertex v) e = clash cc
-plain-other s (face ns) e = clash cc
-plain-other s (group i) e = clash cc
-plain-other s skipped e = clash cc
-plain-other s other e = record { no-numbers = refl; index-is = refl; no-entry = refl }
-
-module _ (f : Form) (s : Run) (ns out : List ℕ) where
-  pub collected-face : (l : List ℕ) (c : Corners) (ns' out' : List ℕ) (u p : ℕ) → FaceIs (fieldsAfter (drop 1 l)) f c → Pushed l ns (s .used) ns' u
-      → Put out (s .at) (entryBytes (s .index) (s .used) (c .count)) out' p → CollectedLine f s ns out ns' out' (record { index = s .index; used = u; at = p })
-  collected-face l c ns' out' u p k a b = record {
+module _ (l : List ℕ) (s : Run) (ns out : List ℕ) where
+  pub collected-face : (ns' out' : List ℕ) (u n p : ℕ) → FaceIs (fieldsAfter (drop 1 l)) (formOf l) → Pushed l ns (s .used) ns' u → n ≡ length (fieldsAfter (drop 1 l))
+      → Put out (s .at) (entryBytes (s .index) (s .used) n) out' p → CollectedLine (formOf l) s ns out ns' out' (record { index = s .index; used = u; at = p })
+  collected-face ns' out' u n p k a c b = record {
     pushed = a .numbers ∙ ap (sets ns (s .used)) (k .cells);
-    used-then = a .next ∙ ap (λ (n : ℕ). s .used + n) (k .count-fields);
+    used-then = a .next ∙ ap (λ (m : ℕ). s .used + m) (k .count-is);
     index-then = sym (k .index-same (s .index));
     polygon =
         subst (λ (e : List ℕ). Put out (s .at) e out' p)
-        (ap (entryBytes (s .index) (s .used)) (k .count-is) ∙ sym (k .entry-is (s .index) (s .used)))
+        (ap (entryBytes (s .index) (s .used)) (c ∙ k .count-is) ∙ sym (k .entry-is (s .index) (s .used)))
         b;
   }
 
-  collected-plain : (i : ℕ) → length out < 2 ^ 63 → Plain s f i → CollectedLine f s ns out ns out (record { index = i; used = s .used; at = s .at })
-  collected-plain i h k = record {
-    pushed = sym (ap (λ (l : List ℕ). sets ns (s .used) (map capped l)) (k .no-numbers));
-    used-then = sym (ap (λ (l : List ℕ). s .used + length l) (k .no-numbers) ∙ add-zero (s .used));
-    index-then = sym (k .index-is);
-    polygon = subst (λ (e : List ℕ). Put out (s .at) e out (s .at)) (sym (k .no-entry)) (put-none out (s .at) h);
-  }
+  -- a line that begins with another byte than f
+  pub collected-index : (i : ℕ) → length out < 2 ^ 63 → (getD l 0 0 ≡ 102 → ⊥) → i ≡ indexAfter (s .index) (formOf l)
+      → CollectedLine (formOf l) s ns out ns out (record { index = i; used = s .used; at = s .at })
+  collected-index i h b e =
+      let k = no-face (getD l 0 0) (formOf l) (form-kind l) b in
+      record {
+        pushed = sym (ap (λ (m : List ℕ). sets ns (s .used) (map capped m)) (k .no-numbers));
+        used-then = sym (ap (λ (m : List ℕ). s .used + length m) (k .no-numbers) ∙ add-zero (s .used));
+        index-then = e;
+        polygon = subst (λ (e : List ℕ). Put out (s .at) e out (s .at)) (sym (k .no-entry (s .index) (s .used))) (put-none out (s .at) h);
+      }
 
-  pub collected-vertex : (line : Line) (v : Vec3) → length out < 2 ^ 63 → line ≡ lineOf f → line ≡ Line.Vertex v → CollectedLine f s ns out ns out s
-  collected-vertex line v h e k = collected-plain (s .index) h (plain-vertex s f v (sym e ∙ k))
+  pub collected-plain : length out < 2 ^ 63 → (getD l 0 0 ≡ 102 → ⊥) → (getD l 0 0 ≡ 103 → ⊥) → CollectedLine (formOf l) s ns out ns out s
+  collected-plain h b g = collected-index (s .index) h b (no-group (getD l 0 0) (s .index) (formOf l) (form-kind l) g)
 
-  pub collected-group : (line : Line) (n : ℕ) → length out < 2 ^ 63 → line ≡ lineOf f → line ≡ Line.Group n
-      → CollectedLine f s ns out ns out (record { index = n; used = s .used; at = s .at })
-  collected-group line n h e k = collected-plain n h (plain-group s f n (sym e ∙ k))
+  pub collected-empty : length out < 2 ^ 63 → length l ≡ 0 → CollectedLine (formOf l) s ns out ns out s
+  collected-empty h e = collected-plain h (other-byte 102 (omega arith)) (other-byte 103 (omega arith))
+    where
+      other-byte : (b : ℕ) → 0 < b → getD l 0 0 ≡ b → ⊥
+      other-byte b p q = let z : getD l 0 0 ≡ 0 = first-none l e in omega arith
 
-  pub collected-skipped : (line : Line) → length out < 2 ^ 63 → line ≡ lineOf f → line ≡ Line.Skipped → CollectedLine f s ns out ns out s
-  collected-skipped line h e k = collected-plain (s .index) h (plain-skipped s f (sym e ∙ k))
+-- ---- the index after a line, as it is read
+clash : {A : Type 0} → _≡_ {A = ℕ} 0 1 → A
+clash z = absurd (omega arith)
 
-  pub collected-other : (line : Line) → length out < 2 ^ 63 → line ≡ lineOf f → line ≡ Line.Other → CollectedLine f s ns out ns out s
-  collected-other line h e k = collected-plain (s .index) h (plain-other s f (sym e ∙ k))
+pub index-group : (i : ℕ) (f : Form) (line : Line) (n : ℕ) → line ≡ lineOf f → line ≡ Line.Group n → n ≡ indexAfter i f
+unfolding lineOf indexAfter
+index-group i (vertex v) line n e k = clash cc
+index-group i (face ns) line n e k = clash cc
+index-group i (group j) line n e k = cc
+index-group i skipped line n e k = clash cc
+index-group i other line n e k = clash cc
+
+-- a line that is no face index
+unfoldable NoGroup : Line → Type 0
+NoGroup (Line.Vertex v) = Unit {0}
+NoGroup (Line.Face c) = Unit {0}
+NoGroup (Line.Group n) = ⊥
+NoGroup Line.Skipped = Unit {0}
+NoGroup Line.Other = Unit {0}
+
+index-kept : (i : ℕ) (f : Form) → NoGroup (lineOf f) → i ≡ indexAfter i f
+unfolding lineOf indexAfter NoGroup
+index-kept i (vertex v) h = refl
+index-kept i (face ns) h = refl
+index-kept i (group j) h = absurd h
+index-kept i skipped h = refl
+index-kept i other h = refl
+
+module _ (i : ℕ) (f : Form) (line : Line) (e : line ≡ lineOf f) where
+  pub index-vertex : (v : Vec3) → line ≡ Line.Vertex v → i ≡ indexAfter i f
+  unfolding NoGroup
+  index-vertex v k = index-kept i f (subst NoGroup (sym k ∙ e) tt)
+
+  pub index-face : (c : Corners) → line ≡ Line.Face c → i ≡ indexAfter i f
+  unfolding NoGroup
+  index-face c k = index-kept i f (subst NoGroup (sym k ∙ e) tt)
+
+  pub index-skipped : line ≡ Line.Skipped → i ≡ indexAfter i f
+  unfolding NoGroup
+  index-skipped k = index-kept i f (subst NoGroup (sym k ∙ e) tt)
+
+  pub index-other : line ≡ Line.Other → i ≡ indexAfter i f
+  unfolding NoGroup
+  index-other k = index-kept i f (subst NoGroup (sym k ∙ e) tt)
 
 -- ---- a line, and those after it
 corners-step : (i : ℕ) (f : Form) (fs : List Form) → cornersFrom (facesFrom i (f ∷ fs)) ≡ numbersOf f ++ cornersFrom (facesFrom (indexAfter i f) fs)
@@ -248,6 +192,24 @@ places-step i u (group j) fs = sym (zero-add _)
 places-step i u skipped fs = sym (zero-add _)
 places-step i u other fs = sym (zero-add _)
 
+-- no line of a text that is not refused is of any other form
+unfoldable pub AllFormed : List Form → Type 0
+AllFormed [] = Unit {0}
+AllFormed (f ∷ fs) = Formed f × AllFormed fs
+
+all-formed : (fs : List Form) (n : ℕ) → refusalFrom n fs ≡ 0 → AllFormed fs
+unfolding AllFormed Formed refusalFrom
+all-formed [] n h = tt
+all-formed (vertex v ∷ fs) n h = (λ (e : vertex v ≡ other). clash cc, all-formed fs (n + 1) h)
+all-formed (face ns ∷ fs) n h = (λ (e : face ns ≡ other). clash cc, all-formed fs n (go (leb (largest ns) n) h))
+  where
+    go : (b : Bool) → cond b (refusalFrom n fs) 15 ≡ 0 → refusalFrom n fs ≡ 0
+    go true e = e
+    go false e = absurd (omega (arith, e))
+all-formed (group i ∷ fs) n h = (λ (e : group i ≡ other). clash cc, all-formed fs n h)
+all-formed (skipped ∷ fs) n h = (λ (e : skipped ≡ other). clash cc, all-formed fs n h)
+all-formed (other ∷ fs) n h = absurd (omega (arith, h))
+
 -- the lines fs that are left, collected now, give the whole
 pub record Left (text : List ℕ) (from : ℕ) (ns₀ out₀ : List ℕ) (fs : List Form) (s : Run) (ns out : List ℕ) : Type 0 where
   pub cells : sets ns (s .used) (map capped (cornersFrom (facesFrom (s .index) fs))) ≡ sets ns₀ 0 (map capped (cornersOf text))
@@ -256,13 +218,14 @@ pub record Left (text : List ℕ) (from : ℕ) (ns₀ out₀ : List ℕ) (fs : L
   pub places-left : s .at + 80 * length (facesFrom (s .index) fs) ≡ from + 80 * length (facesOf text)
   pub numbers-long : length ns ≡ length ns₀
   pub out-long : length out ≡ length out₀
+  pub formed : AllFormed fs
 
-pub left-all : (text : List ℕ) (from : ℕ) (ns out : List ℕ) (fs : List Form) → fs ≡ formsOf text → Left text from ns out fs (record { index = 0; used = 0; at = from }) ns out
-unfolding facesOf cornersOf
-left-all text from ns out fs e = subst (λ (l : List Form). Left text from ns out l (record { index = 0; used = 0; at = from }) ns out) (sym e) all
+pub left-all : (text : List ℕ) (from : ℕ) (ns out : List ℕ) (fs : List Form) → lineRefusal text ≡ 0 → fs ≡ formsOf text → Left text from ns out fs (record { index = 0; used = 0; at = from }) ns out
+unfolding facesOf cornersOf lineRefusal
+left-all text from ns out fs h e = subst (λ (l : List Form). Left text from ns out l (record { index = 0; used = 0; at = from }) ns out) (sym e) all
   where
     all : Left text from ns out (formsOf text) (record { index = 0; used = 0; at = from }) ns out
-    all = record { cells = refl; bytes = refl; corners-left = zero-add _; places-left = refl; numbers-long = refl; out-long = refl }
+    all = record { cells = refl; bytes = refl; corners-left = zero-add _; places-left = refl; numbers-long = refl; out-long = refl; formed = all-formed (formsOf text) 0 h }
 
 -- so many numbers more than those of one line
 pub left-fits : {text : List ℕ} {from : ℕ} {ns₀ out₀ : List ℕ} {f : Form} {fs : List Form} {s : Run} {ns out : List ℕ} → Left text from ns₀ out₀ (f ∷ fs) s ns out
@@ -283,7 +246,12 @@ unfolding over
 sets-append d at p q = over-append d at p q
 
 module _ {text : List ℕ} {from : ℕ} {ns₀ out₀ : List ℕ} {f : Form} {fs : List Form} {s : Run} {ns out : List ℕ} (k : Left text from ns₀ out₀ (f ∷ fs) s ns out) where
+  pub left-formed : Formed f
+  unfolding AllFormed
+  left-formed = k .formed .0
+
   pub left-step : (ns' out' : List ℕ) (r : Run) → from + 80 * length (facesOf text) ≤ 2 ^ 63 → CollectedLine f s ns out ns' out' r → Left text from ns₀ out₀ fs r ns' out'
+  unfolding AllFormed
   left-step ns' out' r h c = record {
     cells =
         ap (λ (l : List ℕ). sets l (r .used) (map capped (cornersFrom (facesFrom (r .index) fs)))) (c .pushed)
@@ -313,8 +281,12 @@ module _ {text : List ℕ} {from : ℕ} {ns₀ out₀ : List ℕ} {f : Form} {fs
         ∙ k .places-left;
     numbers-long = ap length (c .pushed) ∙ length-sets ns (s .used) (map capped (numbersOf f)) ∙ k .numbers-long;
     out-long = put-length entry (c .polygon) ∙ k .out-long;
+    formed = after-first (k .formed);
   }
     where
+      after-first : AllFormed (f ∷ fs) → AllFormed fs
+      after-first g = g .1
+
       entry : List ℕ
       entry = entryOf (s .index) (s .used) f
 

@@ -1,24 +1,28 @@
 -- The third pass, line by line.
-use mathlib.Core.Path.{_≡_, sym, ap, _∙_, subst}
+use mathlib.Core.Path.{_≡_, refl, sym, ap, _∙_, subst}
+use mathlib.Core.Bool.{Bool, true, false, cond}
 use mathlib.Core.List.{List, [], _∷_}
 use Prim.Native.Nat.{ℕ, _+_, _-_, _≤_, _<_}
 use native.Mathlib.Nat.{add-zero, le-trans, le-of-eq}
 use native.Mathlib.Decide.{decLe}
 use native.Mathlib.Omega.{arith}
+use lib.Dec.{eqb}
 use lib.ListN.{length, drop, getD, length-drop}
 use lib.Seq.{getD-drop, drop-drop}
 use lib.Ieee.{Float, nan}
+use borrow.Author.Tests.{eq-eqb, ne-eqb, eqb-false}
 use Rattle.math.specs.declared.Vec3.{Vec3}
 use Rattle.obj_line.specs.declared.line.Corners.{Corners}
 use Rattle.obj_line.specs.declared.line.Line.{Line}
 use Rattle.obj_line.specs.declared.line.Line.the-variants as Line
-use Rattle.obj_line.specs.Form.{Form, vertex, face, group, skipped, other, lineOf}
+use Rattle.obj_line.specs.Form.{Form, vertex, face, group, skipped, other, formOf, lineOf}
 use Rattle.obj_text.specs.Text.{origin, formsOf, verticesFrom, verticesOf, vertexOf}
 use Rattle.obj_tables.specs.declared.window.Window.{Window}
 use Rattle.obj_tables.specs.Tables.{Flushed, Axis, advanced, Kept}
 use Rattle.obj_tables.proofs.WindowLaws.{advance-full, advance-more, axis-flush}
-use Rattle.obj_passes.specs.Work.{Axes, windowAfter, IsNext, FilledLine, FilledLines}
+use Rattle.obj_passes.specs.Work.{vertexLine, Axes, windowAfter, IsNext, FilledLine, FilledLines}
 use Rattle.obj_passes.specs.Passes.{Tables, rowAt, Filled}
+use Rattle.obj_passes.proofs.KindLaws.{Kind, form-kind}
 
 -- ---- one line
 module _ (line : Line) (numbers : List ℕ) (used : ℕ) (w : Window) (xs ys zs cx cy cz : List Float) (t : Tables xs ys zs cx cy cz) where
@@ -131,15 +135,58 @@ rest-left vs rest k v e = sym (drop-drop 1 k vs) ∙ ap (drop 1) e
 clash : {A : Type 0} → _≡_ {A = ℕ} 0 1 → A
 clash z = absurd (omega arith)
 
-next-vertex : (vs : List Vec3) (w : Window) (f : Form) (fs : List Form) (line : Line) → drop (w .base + w .count) vs ≡ verticesFrom (f ∷ fs) → line ≡ lineOf f → IsNext vs w line
-unfolding IsNext lineOf verticesFrom
-next-vertex vs w (vertex v) fs line e k u h =
-    let same : u ≡ v = cc in
-    same ∙ first-left vs (verticesFrom fs) (w .base + w .count) v e
-next-vertex vs w (face ns) fs line e k u h = clash cc
-next-vertex vs w (group i) fs line e k u h = clash cc
-next-vertex vs w skipped fs line e k u h = clash cc
-next-vertex vs w other fs line e k u h = clash cc
+-- ---- a line, as it is read: one that does not begin with a v is no vertex
+pub line-none : (l : List ℕ) → length l ≡ 0 → Line.Skipped ≡ vertexLine l
+unfolding vertexLine
+line-none [] h = refl
+line-none (b ∷ l) h = absurd (omega arith)
+
+pub line-not : (l : List ℕ) → (getD l 0 0 ≡ 118 → ⊥) → Line.Skipped ≡ vertexLine l
+unfolding vertexLine
+line-not l h = rw (ne-eqb (getD l 0 0) 118 h)
+
+pub line-read : (l : List ℕ) (line : Line) → getD l 0 0 ≡ 118 → line ≡ lineOf (formOf l) → line ≡ vertexLine l
+unfolding vertexLine
+line-read l line h e = rw (eq-eqb (getD l 0 0) 118 h) e
+
+pub record Shows (f : Form) (line : Line) : Type 0 where
+  pub is-vertex : (v : Vec3) → line ≡ Line.Vertex v → f ≡ vertex v
+  pub same-window : (w : Window) → windowAfter w line ≡ windowAfter w (lineOf f)
+
+vertex-of : (f : Form) (v : Vec3) → lineOf f ≡ Line.Vertex v → f ≡ vertex v
+unfolding lineOf
+vertex-of (vertex u) v e = let same : u ≡ v = cc in ap vertex same
+vertex-of (face ns) v e = clash cc
+vertex-of (group i) v e = clash cc
+vertex-of skipped v e = clash cc
+vertex-of other v e = clash cc
+
+same-skipped : (b : ℕ) (f : Form) (w : Window) → Kind b f → (b ≡ 118 → ⊥) → windowAfter w Line.Skipped ≡ windowAfter w (lineOf f)
+unfolding Kind windowAfter lineOf
+same-skipped b (vertex v) w k h = absurd (h k)
+same-skipped b (face ns) w k h = refl
+same-skipped b (group i) w k h = refl
+same-skipped b skipped w k h = refl
+same-skipped b other w k h = refl
+
+pub shows : (l : List ℕ) (line : Line) → line ≡ vertexLine l → Shows (formOf l) line
+unfolding vertexLine
+shows l line e = go (eqb (getD l 0 0) 118) refl e
+  where
+    no-vertex : (v : Vec3) → Line.Skipped ≡ Line.Vertex v → formOf l ≡ vertex v
+    no-vertex v q = clash cc
+
+    go : (t : Bool) → eqb (getD l 0 0) 118 ≡ t → line ≡ cond t (lineOf (formOf l)) Line.Skipped → Shows (formOf l) line
+    go true h k = record { is-vertex = λ v q. vertex-of (formOf l) v (sym k ∙ q); same-window = λ w. ap (windowAfter w) k }
+    go false h k = record {
+      is-vertex = λ v q. no-vertex v (sym k ∙ q);
+      same-window = λ w. ap (windowAfter w) k ∙ same-skipped (getD l 0 0) (formOf l) w (form-kind l) (eqb-false (getD l 0 0) 118 h);
+    }
+
+next-vertex : (vs : List Vec3) (w : Window) (f : Form) (fs : List Form) (line : Line) → drop (w .base + w .count) vs ≡ verticesFrom (f ∷ fs) → Shows f line → IsNext vs w line
+unfolding IsNext verticesFrom
+next-vertex vs w f fs line e k v h =
+    first-left vs (verticesFrom fs) (w .base + w .count) v (e ∙ ap (λ (g : Form). verticesFrom (g ∷ fs)) (k .is-vertex v h))
 
 record Moved (vs : List Vec3) (w : Window) (fs : List Form) (r : Window) : Type 0 where
   left-then : drop (r .base + r .count) vs ≡ verticesFrom fs
@@ -161,11 +208,11 @@ moved vs w skipped fs h e = record { left-then = e; most-then = h; sum-then = om
 moved vs w other fs h e = record { left-then = e; most-then = h; sum-then = omega arith }
 
 module _ {text numbers : List ℕ} {used : ℕ} {f : Form} {fs : List Form} {at : ℕ} {w : Window} {xs ys zs cx cy cz : List Float} (k : Filling text numbers used (f ∷ fs) at w xs ys zs cx cy cz) where
-  pub filling-step : (line : Line) (next : ℕ) (r : Window) (xs' ys' zs' cx' cy' cz' : List Float) → line ≡ lineOf f → at < next
+  pub filling-step : (line : Line) (next : ℕ) (r : Window) (xs' ys' zs' cx' cy' cz' : List Float) → Shows f line → at < next
       → FilledLine line numbers used w xs ys zs cx cy cz xs' ys' zs' cx' cy' cz' r → Filling text numbers used fs next r xs' ys' zs' cx' cy' cz'
   filling-step line next r xs' ys' zs' cx' cy' cz' e l p =
       let m = moved (verticesOf text) w f fs (k .count-most) (k .left) in
-      let is : r ≡ windowAfter w (lineOf f) = p .window ∙ ap (windowAfter w) e in
+      let is : r ≡ windowAfter w (lineOf f) = p .window ∙ e .same-window w in
       let n : Moved (verticesOf text) w fs r = subst (λ (q : Window). Moved (verticesOf text) w fs q) (sym is) m in
       record {
         axes = p .axes (verticesOf text) (k .axes) (next-vertex (verticesOf text) w f fs line (k .left) e);

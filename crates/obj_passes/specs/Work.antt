@@ -1,7 +1,9 @@
 -- What private functions leave on the way; a reader may pass over it. Definitions only.
 use mathlib.Core.Path.{_≡_}
+use mathlib.Core.Bool.{cond}
 use mathlib.Core.List.{List, [], map}
 use Prim.Native.Nat.{ℕ, _+_, _≤_}
+use lib.Dec.{eqb}
 use lib.ListN.{length, getD}
 use lib.Seq.{sets}
 use lib.Ieee.{Float}
@@ -10,13 +12,17 @@ use Rattle.num_text.specs.Put.{Put}
 use Rattle.obj_number.specs.Whole.{capped}
 use Rattle.obj_line.specs.declared.line.Line.{Line}
 use Rattle.obj_line.specs.declared.line.Line.the-variants as Line
-use Rattle.obj_line.specs.Form.{Form, vertex, face, group, skipped, other}
+use Rattle.obj_line.specs.Form.{Form, vertex, face, group, skipped, other, formOf, lineOf}
 use Rattle.obj_text.specs.Text.{origin, verticesOf}
 use Rattle.obj_tables.specs.declared.window.Window.{Window}
 use Rattle.obj_tables.specs.Tables.{Axis, advanced}
 use Rattle.obj_part.specs.Bytes.{entryBytes}
 use Rattle.obj_passes.specs.declared.collect.Run.{Run}
 use Rattle.obj_passes.specs.Passes.{Tables}
+
+-- a line that 14 does not refuse
+unfoldable pub Formed : Form → Type 0
+Formed f = f ≡ other → ⊥
 
 -- ---- what one line adds: vertex numbers, the index in use, a polygon
 unfoldable pub numbersOf : Form → List ℕ
@@ -51,6 +57,10 @@ pub record Axes (vs : List Vec3) (numbers : List ℕ) (used : ℕ) (w : Window) 
   pub along-x : Axis (λ (v : Vec3). v .x) vs numbers used (w .base) (w .count) xs cx
   pub along-y : Axis (λ (v : Vec3). v .y) vs numbers used (w .base) (w .count) ys cy
   pub along-z : Axis (λ (v : Vec3). v .z) vs numbers used (w .base) (w .count) zs cz
+
+-- a line that begins with a v, 118; any other is passed over
+unfoldable pub vertexLine : List ℕ → Line
+vertexLine l = cond (eqb (getD l 0 0) 118) (lineOf (formOf l)) Line.Skipped
 
 unfoldable pub windowAfter : Window → Line → Window
 windowAfter w (Line.Vertex v) = advanced w

@@ -2,8 +2,7 @@
 ghost use mathlib.Core.Path.{_≡_};
 ghost use Prim.Native.Nat.{_≤_, _<_, _^_};
 ghost use lib.ListN.{length};
-ghost use Rattle.obj_line.specs.Form.{formOf, lineOf};
-ghost use Rattle.obj_passes.specs.Work.{FilledLine, FilledLines};
+ghost use Rattle.obj_passes.specs.Work.{vertexLine, FilledLine, FilledLines};
 ghost use Rattle.obj_passes.specs.Passes.{Tables, Filled};
 use obj_line::line::Line;
 use obj_line::line::read_line;
@@ -12,6 +11,19 @@ use obj_tables::window::Window;
 use obj_tables::window::advance;
 use obj_tables::window::flush;
 use obj_tables::window::keep;
+
+// A line that begins with a v; this pass has no use for any other.
+fn read_vertex(line: &[u8]) -> Line
+    ensures { λ r. ⌜ r ≡ vertexLine (now (line .entry)) ⌝ }
+{
+    if line.len() == 0 {
+        return Line::Skipped;
+    }
+    if line[0] != b'v' {
+        return Line::Skipped;
+    }
+    read_line(line)
+}
 
 // One more line: a vertex is kept by each coordinate.
 fn fill_line(
@@ -62,7 +74,7 @@ fn fill_lines(
     let mut at: usize = 0;
     while at <= text.len() {
         let end = at + find(&text[at..], b'\n');
-        let line = read_line(&text[at..end]);
+        let line = read_vertex(&text[at..end]);
         w = fill_line(line, numbers, used, w, xs, ys, zs, cx, cy, cz);
         at = end + 1;
     }

@@ -20,7 +20,7 @@ mul-collect : tie.Need-mul-collect
 mul-collect c = let a = accepted (c .before .before .before .before .before .args .text .now) (length (c .before .before .before .before .before .args .job .now)) (length (now (c .before .before .before .before .before .args .out))) (c .before .before .before .before .before .pre .0) in omega (arith, a .corners-most, c .before .before .before .before .before .pre .1 .0)
 
 collect-requires : tie.Need-collect-requires
-collect-requires c κs = let a = accepted (c .before .before .before .before .before .args .text .now) (length (c .before .before .before .before .before .args .job .now)) (length (now (c .before .before .before .before .before .args .out))) (c .before .before .before .before .before .pre .0) in (a .corners-most, (length-replicate {A = ℕ} 16384 0, omega (arith, a .corners-most, a .faces-most, c .before .before .before .before .before .pre .1 .0)))
+collect-requires c κs = let a = accepted (c .before .before .before .before .before .args .text .now) (length (c .before .before .before .before .before .args .job .now)) (length (now (c .before .before .before .before .before .args .out))) (c .before .before .before .before .before .pre .0) in (a .lines, (a .corners-most, (length-replicate {A = ℕ} 16384 0, omega (arith, a .corners-most, a .faces-most, c .before .before .before .before .before .pre .1 .0))))
 
 slice-aggregate-put-corners : tie.Need-slice-aggregate-put-corners
 slice-aggregate-put-corners c = search needs

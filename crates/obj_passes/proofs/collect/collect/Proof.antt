@@ -10,7 +10,7 @@ use Rattle.obj_number.proofs.CutLaws.{part-all}
 use Rattle.obj_line.specs.Form.{Form}
 use Rattle.obj_text.specs.Work.{formsFrom}
 use Rattle.obj_text.proofs.LineLaws.{forms-start, forms-end, forms-step, end-inside}
-use Rattle.obj_passes.proofs.CollectLaws.{Left, left-all, left-fits, left-step, left-none}
+use Rattle.obj_passes.proofs.CollectLaws.{Left, left-all, left-formed, left-fits, left-step, left-none}
 use native.Mathlib.Omega.{arith}
 use Rattle.obj_passes.proofs.collect.collect.Statement.{statement}
 use Rattle.obj_passes.proofs.collect.collect.Tie as tie
@@ -22,7 +22,7 @@ abbrev μ-loop : tie.MeasureT-loop
 μ-loop text numbers₀ out₀ from s₀ at₀ numbers out s at = length text + 1 - at
 
 loop-holds : tie.Need-loop-holds Inv-loop μ-loop
-loop-holds c = (omega arith, left-all _ _ _ _ _ (forms-start (c .before .before .before .args .text .now)))
+loop-holds c = (omega arith, left-all _ _ _ _ _ (c .before .before .before .pre .0) (forms-start (c .before .before .before .args .text .now)))
 
 sub-find : tie.Need-sub-find Inv-loop μ-loop
 sub-find c = omega arith
@@ -39,18 +39,6 @@ find-requires c κs = search needs
 add-end : tie.Need-add-end Inv-loop μ-loop
 add-end c = omega (arith, end-inside (c .before .before .before .before .before .before .before .args .text .now) (c .before .before .before .loop .at) (c .find .result) (omega (arith, c .before .before .loop-test .taken)) (c .find .ensures ∙ ap (λ (l : List ℕ). length (before 10 l)) (part-all _ (c .before .before .before .before .before .before .before .args .text .now))))
 
-sub-read-line : tie.Need-sub-read-line Inv-loop μ-loop
-sub-read-line c = omega arith
-
-part-read-line-start : tie.Need-part-read-line-start Inv-loop μ-loop
-part-read-line-start c = omega arith
-
-part-read-line-end : tie.Need-part-read-line-end Inv-loop μ-loop
-part-read-line-end c = end-inside (c .before .before .before .before .before .before .before .args .text .now) (c .before .before .before .loop .at) (c .find .result) (omega (arith, c .before .before .loop-test .taken)) (c .find .ensures ∙ ap (λ (l : List ℕ). length (before 10 l)) (part-all _ (c .before .before .before .before .before .before .before .args .text .now)))
-
-read-line-requires : tie.Need-read-line-requires Inv-loop μ-loop
-read-line-requires c κs = search needs
-
 sub-collect-line : tie.Need-sub-collect-line Inv-loop μ-loop
 sub-collect-line c = omega arith
 
@@ -58,19 +46,19 @@ part-collect-line-start : tie.Need-part-collect-line-start Inv-loop μ-loop
 part-collect-line-start c = omega arith
 
 part-collect-line-end : tie.Need-part-collect-line-end Inv-loop μ-loop
-part-collect-line-end c = end-inside (c .before .before .before .before .before .before .before .before .before .args .text .now) (c .before .before .before .before .before .loop .at) (c .before .before .find .result) (omega (arith, c .before .before .before .before .loop-test .taken)) (c .before .before .find .ensures ∙ ap (λ (l : List ℕ). length (before 10 l)) (part-all _ (c .before .before .before .before .before .before .before .before .before .args .text .now)))
+part-collect-line-end c = end-inside (c .before .before .before .before .before .before .before .args .text .now) (c .before .before .before .loop .at) (c .find .result) (omega (arith, c .before .before .loop-test .taken)) (c .find .ensures ∙ ap (λ (l : List ℕ). length (before 10 l)) (part-all _ (c .before .before .before .before .before .before .before .args .text .now)))
 
 collect-line-requires : tie.Need-collect-line-requires Inv-loop μ-loop
-collect-line-requires c κs = let k = left-fits (subst (λ (fs : List Form). Left (c .before .before .before .before .before .before .before .before .before .before .before .before .args .text .now) (c .before .before .before .before .before .before .before .before .before .before .before .before .args .from) (now (c .before .before .before .before .before .before .before .before .before .before .before .before .args .numbers)) (now (c .before .before .before .before .before .before .before .before .before .before .before .before .args .out)) fs (c .before .before .before .before .before .before .before .before .loop .s) (c .before .before .before .before .before .before .before .before .loop .numbers) (c .before .before .before .before .before .before .before .before .loop .out)) (forms-step (c .before .before .before .before .before .before .before .before .before .before .before .before .args .text .now) (c .before .before .before .before .before .before .before .before .loop .at) (c .before .before .before .before .before .find .result) (omega (arith, c .before .before .before .before .before .before .before .loop-test .taken)) (c .before .before .before .before .before .find .ensures ∙ ap (λ (l : List ℕ). length (before 10 l)) (part-all _ (c .before .before .before .before .before .before .before .before .before .before .before .before .args .text .now)))) (c .before .before .before .before .before .before .before .before .loop .inv .1)) in (c .before .before .before .read-line .ensures, (omega (arith, k, c .before .before .before .before .before .before .before .before .loop .inv .1 .numbers-long, c .before .before .before .before .before .before .before .before .before .before .before .before .pre .0, c .before .before .before .before .before .before .before .before .before .before .before .before .pre .1 .0), c .before .before .before .before .before .before .before .before .loop .inv .1 .numbers-long ∙ c .before .before .before .before .before .before .before .before .before .before .before .before .pre .1 .0))
+collect-line-requires c κs = let k = subst (λ (fs : List Form). Left (c .before .before .before .before .before .before .before .before .before .before .args .text .now) (c .before .before .before .before .before .before .before .before .before .before .args .from) (now (c .before .before .before .before .before .before .before .before .before .before .args .numbers)) (now (c .before .before .before .before .before .before .before .before .before .before .args .out)) fs (c .before .before .before .before .before .before .loop .s) (c .before .before .before .before .before .before .loop .numbers) (c .before .before .before .before .before .before .loop .out)) (forms-step (c .before .before .before .before .before .before .before .before .before .before .args .text .now) (c .before .before .before .before .before .before .loop .at) (c .before .before .before .find .result) (omega (arith, c .before .before .before .before .before .loop-test .taken)) (c .before .before .before .find .ensures ∙ ap (λ (l : List ℕ). length (before 10 l)) (part-all _ (c .before .before .before .before .before .before .before .before .before .before .args .text .now)))) (c .before .before .before .before .before .before .loop .inv .1) in (left-formed k, (omega (arith, left-fits k, c .before .before .before .before .before .before .loop .inv .1 .numbers-long, c .before .before .before .before .before .before .before .before .before .before .pre .1 .0, c .before .before .before .before .before .before .before .before .before .before .pre .1 .1 .0), c .before .before .before .before .before .before .loop .inv .1 .numbers-long ∙ c .before .before .before .before .before .before .before .before .before .before .pre .1 .1 .0))
 
 add-at : tie.Need-add-at Inv-loop μ-loop
-add-at c = omega (arith, end-inside (c .before .before .before .before .before .before .before .before .before .before .before .before .before .before .before .before .before .args .text .now) (c .before .before .before .before .before .before .before .before .before .before .before .before .before .loop .at) (c .before .before .before .before .before .before .before .before .before .before .find .result) (omega (arith, c .before .before .before .before .before .before .before .before .before .before .before .before .loop-test .taken)) (c .before .before .before .before .before .before .before .before .before .before .find .ensures ∙ ap (λ (l : List ℕ). length (before 10 l)) (part-all _ (c .before .before .before .before .before .before .before .before .before .before .before .before .before .before .before .before .before .args .text .now))))
+add-at c = omega (arith, end-inside (c .before .before .before .before .before .before .before .before .before .before .before .before .before .before .before .args .text .now) (c .before .before .before .before .before .before .before .before .before .before .before .loop .at) (c .before .before .before .before .before .before .before .before .find .result) (omega (arith, c .before .before .before .before .before .before .before .before .before .before .loop-test .taken)) (c .before .before .before .before .before .before .before .before .find .ensures ∙ ap (λ (l : List ℕ). length (before 10 l)) (part-all _ (c .before .before .before .before .before .before .before .before .before .before .before .before .before .before .before .args .text .now))))
 
 loop-less : tie.Need-loop-less Inv-loop μ-loop
-loop-less c = omega (arith, end-inside (c .before .before .before .before .before .before .before .before .before .before .before .before .before .before .before .before .before .args .text .now) (c .before .before .before .before .before .before .before .before .before .before .before .before .before .loop .at) (c .before .before .before .before .before .before .before .before .before .before .find .result) (omega (arith, c .before .before .before .before .before .before .before .before .before .before .before .before .loop-test .taken)) (c .before .before .before .before .before .before .before .before .before .before .find .ensures ∙ ap (λ (l : List ℕ). length (before 10 l)) (part-all _ (c .before .before .before .before .before .before .before .before .before .before .before .before .before .before .before .before .before .args .text .now))))
+loop-less c = omega (arith, end-inside (c .before .before .before .before .before .before .before .before .before .before .before .before .before .before .before .args .text .now) (c .before .before .before .before .before .before .before .before .before .before .before .loop .at) (c .before .before .before .before .before .before .before .before .find .result) (omega (arith, c .before .before .before .before .before .before .before .before .before .before .loop-test .taken)) (c .before .before .before .before .before .before .before .before .find .ensures ∙ ap (λ (l : List ℕ). length (before 10 l)) (part-all _ (c .before .before .before .before .before .before .before .before .before .before .before .before .before .before .before .args .text .now))))
 
 loop-again : tie.Need-loop-again Inv-loop μ-loop
-loop-again c = let e = end-inside (c .before .before .before .before .before .before .before .before .before .before .before .before .before .before .before .before .before .args .text .now) (c .before .before .before .before .before .before .before .before .before .before .before .before .before .loop .at) (c .before .before .before .before .before .before .before .before .before .before .find .result) (omega (arith, c .before .before .before .before .before .before .before .before .before .before .before .before .loop-test .taken)) (c .before .before .before .before .before .before .before .before .before .before .find .ensures ∙ ap (λ (l : List ℕ). length (before 10 l)) (part-all _ (c .before .before .before .before .before .before .before .before .before .before .before .before .before .before .before .before .before .args .text .now))) in (omega (arith, e), left-step (subst (λ (fs : List Form). Left (c .before .before .before .before .before .before .before .before .before .before .before .before .before .before .before .before .before .args .text .now) (c .before .before .before .before .before .before .before .before .before .before .before .before .before .before .before .before .before .args .from) (now (c .before .before .before .before .before .before .before .before .before .before .before .before .before .before .before .before .before .args .numbers)) (now (c .before .before .before .before .before .before .before .before .before .before .before .before .before .before .before .before .before .args .out)) fs (c .before .before .before .before .before .before .before .before .before .before .before .before .before .loop .s) (c .before .before .before .before .before .before .before .before .before .before .before .before .before .loop .numbers) (c .before .before .before .before .before .before .before .before .before .before .before .before .before .loop .out)) (forms-step (c .before .before .before .before .before .before .before .before .before .before .before .before .before .before .before .before .before .args .text .now) (c .before .before .before .before .before .before .before .before .before .before .before .before .before .loop .at) (c .before .before .before .before .before .before .before .before .before .before .find .result) (omega (arith, c .before .before .before .before .before .before .before .before .before .before .before .before .loop-test .taken)) (c .before .before .before .before .before .before .before .before .before .before .find .ensures ∙ ap (λ (l : List ℕ). length (before 10 l)) (part-all _ (c .before .before .before .before .before .before .before .before .before .before .before .before .before .before .before .before .before .args .text .now)))) (c .before .before .before .before .before .before .before .before .before .before .before .before .before .loop .inv .1)) _ _ _ (c .before .before .before .before .before .before .before .before .before .before .before .before .before .before .before .before .before .pre .1 .1) (c .before .before .before .before .collect-line .ensures))
+loop-again c = let e = end-inside (c .before .before .before .before .before .before .before .before .before .before .before .before .before .before .before .args .text .now) (c .before .before .before .before .before .before .before .before .before .before .before .loop .at) (c .before .before .before .before .before .before .before .before .find .result) (omega (arith, c .before .before .before .before .before .before .before .before .before .before .loop-test .taken)) (c .before .before .before .before .before .before .before .before .find .ensures ∙ ap (λ (l : List ℕ). length (before 10 l)) (part-all _ (c .before .before .before .before .before .before .before .before .before .before .before .before .before .before .before .args .text .now))) in (omega (arith, e), left-step (subst (λ (fs : List Form). Left (c .before .before .before .before .before .before .before .before .before .before .before .before .before .before .before .args .text .now) (c .before .before .before .before .before .before .before .before .before .before .before .before .before .before .before .args .from) (now (c .before .before .before .before .before .before .before .before .before .before .before .before .before .before .before .args .numbers)) (now (c .before .before .before .before .before .before .before .before .before .before .before .before .before .before .before .args .out)) fs (c .before .before .before .before .before .before .before .before .before .before .before .loop .s) (c .before .before .before .before .before .before .before .before .before .before .before .loop .numbers) (c .before .before .before .before .before .before .before .before .before .before .before .loop .out)) (forms-step (c .before .before .before .before .before .before .before .before .before .before .before .before .before .before .before .args .text .now) (c .before .before .before .before .before .before .before .before .before .before .before .loop .at) (c .before .before .before .before .before .before .before .before .find .result) (omega (arith, c .before .before .before .before .before .before .before .before .before .before .loop-test .taken)) (c .before .before .before .before .before .before .before .before .find .ensures ∙ ap (λ (l : List ℕ). length (before 10 l)) (part-all _ (c .before .before .before .before .before .before .before .before .before .before .before .before .before .before .before .args .text .now)))) (c .before .before .before .before .before .before .before .before .before .before .before .loop .inv .1)) _ _ _ (c .before .before .before .before .before .before .before .before .before .before .before .before .before .before .before .pre .1 .1 .1) (c .before .before .before .before .collect-line .ensures))
 
 same-length : tie.Need-same-length Inv-loop μ-loop
 same-length c = c .before .loop .inv .1 .numbers-long
@@ -93,10 +81,6 @@ collect-spec =
     part-find-end
     find-requires
     add-end
-    sub-read-line
-    part-read-line-start
-    part-read-line-end
-    read-line-requires
     sub-collect-line
     part-collect-line-start
     part-collect-line-end

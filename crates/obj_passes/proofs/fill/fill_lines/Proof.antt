@@ -9,7 +9,7 @@ use Rattle.obj_number.proofs.CutLaws.{part-all}
 use Rattle.obj_line.specs.Form.{Form}
 use Rattle.obj_text.specs.Work.{formsFrom}
 use Rattle.obj_text.proofs.LineLaws.{forms-start, forms-end, forms-step, end-inside}
-use Rattle.obj_passes.proofs.FillLaws.{Filling, filling-all, filling-step, filling-none}
+use Rattle.obj_passes.proofs.FillLaws.{shows, Filling, filling-all, filling-step, filling-none}
 use native.Mathlib.Omega.{arith}
 use Rattle.obj_passes.proofs.fill.fill_lines.Statement.{statement}
 use Rattle.obj_passes.proofs.fill.fill_lines.Tie as tie
@@ -41,17 +41,17 @@ find-requires c κs = search needs
 add-end : tie.Need-add-end Inv-loop μ-loop
 add-end c = omega (arith, end-inside (c .before .before .before .before .before .before .before .before .before .before .before .before .args .text .now) (c .before .before .before .loop .at) (c .find .result) (omega (arith, c .before .before .loop-test .taken)) (c .find .ensures ∙ ap (λ (l : List ℕ). length (before 10 l)) (part-all _ (c .before .before .before .before .before .before .before .before .before .before .before .before .args .text .now))))
 
-sub-read-line : tie.Need-sub-read-line Inv-loop μ-loop
-sub-read-line c = omega arith
+sub-read-vertex : tie.Need-sub-read-vertex Inv-loop μ-loop
+sub-read-vertex c = omega arith
 
-part-read-line-start : tie.Need-part-read-line-start Inv-loop μ-loop
-part-read-line-start c = omega arith
+part-read-vertex-start : tie.Need-part-read-vertex-start Inv-loop μ-loop
+part-read-vertex-start c = omega arith
 
-part-read-line-end : tie.Need-part-read-line-end Inv-loop μ-loop
-part-read-line-end c = end-inside (c .before .before .before .before .before .before .before .before .before .before .before .before .args .text .now) (c .before .before .before .loop .at) (c .find .result) (omega (arith, c .before .before .loop-test .taken)) (c .find .ensures ∙ ap (λ (l : List ℕ). length (before 10 l)) (part-all _ (c .before .before .before .before .before .before .before .before .before .before .before .before .args .text .now)))
+part-read-vertex-end : tie.Need-part-read-vertex-end Inv-loop μ-loop
+part-read-vertex-end c = end-inside (c .before .before .before .before .before .before .before .before .before .before .before .before .args .text .now) (c .before .before .before .loop .at) (c .find .result) (omega (arith, c .before .before .loop-test .taken)) (c .find .ensures ∙ ap (λ (l : List ℕ). length (before 10 l)) (part-all _ (c .before .before .before .before .before .before .before .before .before .before .before .before .args .text .now)))
 
-read-line-requires : tie.Need-read-line-requires Inv-loop μ-loop
-read-line-requires c κs = search needs
+read-vertex-requires : tie.Need-read-vertex-requires Inv-loop μ-loop
+read-vertex-requires c κs = search needs
 
 fill-line-requires : tie.Need-fill-line-requires Inv-loop μ-loop
 fill-line-requires c κs = (c .before .before .before .before .before .before .before .before .before .before .before .before .before .before .before .before .before .before .before .before .pre .0, (c .before .before .before .before .before .before .before .before .before .before .before .before .before .before .before .before .before .before .before .before .pre .1 .0, (c .before .before .before .before .before .before .before .before .before .before .before .loop .inv .1 .long, (small (c .before .before .before .before .before .before .before .before .before .before .before .before .before .before .before .before .before .before .before .before .args .text .now) (c .before .before .before .before .before .before .before .before .before .before .before .loop .at) (c .before .before .before .before .before .before .before .before .before .before .before .loop .w .base) (c .before .before .before .before .before .before .before .before .before .before .before .loop .w .count) (c .before .before .before .before .before .before .before .before .before .before .before .loop .inv .1 .few) (c .before .before .before .before .before .before .before .before .before .before .loop-test .taken) (omega arith), c .before .before .before .before .before .before .before .before .before .before .before .loop .inv .1 .count-most))))
@@ -63,7 +63,7 @@ loop-less : tie.Need-loop-less Inv-loop μ-loop
 loop-less c = omega (arith, end-inside (c .before .before .before .before .before .before .before .before .before .before .before .before .before .before .before .before .before .before .before .before .before .before .before .before .before .before .before .before .before .before .before .before .before .args .text .now) (c .before .before .before .before .before .before .before .before .before .before .before .before .before .before .before .before .before .before .before .before .before .before .before .before .loop .at) (c .before .before .before .before .before .before .before .before .before .before .before .before .before .before .before .before .before .before .before .before .before .find .result) (omega (arith, c .before .before .before .before .before .before .before .before .before .before .before .before .before .before .before .before .before .before .before .before .before .before .before .loop-test .taken)) (c .before .before .before .before .before .before .before .before .before .before .before .before .before .before .before .before .before .before .before .before .before .find .ensures ∙ ap (λ (l : List ℕ). length (before 10 l)) (part-all _ (c .before .before .before .before .before .before .before .before .before .before .before .before .before .before .before .before .before .before .before .before .before .before .before .before .before .before .before .before .before .before .before .before .before .args .text .now))))
 
 loop-again : tie.Need-loop-again Inv-loop μ-loop
-loop-again c = (omega (arith, end-inside (c .before .before .before .before .before .before .before .before .before .before .before .before .before .before .before .before .before .before .before .before .before .before .before .before .before .before .before .before .before .before .before .before .before .args .text .now) (c .before .before .before .before .before .before .before .before .before .before .before .before .before .before .before .before .before .before .before .before .before .before .before .before .loop .at) (c .before .before .before .before .before .before .before .before .before .before .before .before .before .before .before .before .before .before .before .before .before .find .result) (omega (arith, c .before .before .before .before .before .before .before .before .before .before .before .before .before .before .before .before .before .before .before .before .before .before .before .loop-test .taken)) (c .before .before .before .before .before .before .before .before .before .before .before .before .before .before .before .before .before .before .before .before .before .find .ensures ∙ ap (λ (l : List ℕ). length (before 10 l)) (part-all _ (c .before .before .before .before .before .before .before .before .before .before .before .before .before .before .before .before .before .before .before .before .before .before .before .before .before .before .before .before .before .before .before .before .before .args .text .now)))), filling-step (subst (λ (fs : List Form). Filling (c .before .before .before .before .before .before .before .before .before .before .before .before .before .before .before .before .before .before .before .before .before .before .before .before .before .before .before .before .before .before .before .before .before .args .text .now) (c .before .before .before .before .before .before .before .before .before .before .before .before .before .before .before .before .before .before .before .before .before .before .before .before .before .before .before .before .before .before .before .before .before .args .numbers .now) (c .before .before .before .before .before .before .before .before .before .before .before .before .before .before .before .before .before .before .before .before .before .before .before .before .before .before .before .before .before .before .before .before .before .args .used) fs (c .before .before .before .before .before .before .before .before .before .before .before .before .before .before .before .before .before .before .before .before .before .before .before .before .loop .at) (c .before .before .before .before .before .before .before .before .before .before .before .before .before .before .before .before .before .before .before .before .before .before .before .before .loop .w) (c .before .before .before .before .before .before .before .before .before .before .before .before .before .before .before .before .before .before .before .before .before .before .before .before .loop .xs) (c .before .before .before .before .before .before .before .before .before .before .before .before .before .before .before .before .before .before .before .before .before .before .before .before .loop .ys) (c .before .before .before .before .before .before .before .before .before .before .before .before .before .before .before .before .before .before .before .before .before .before .before .before .loop .zs) (c .before .before .before .before .before .before .before .before .before .before .before .before .before .before .before .before .before .before .before .before .before .before .before .before .loop .cx) (c .before .before .before .before .before .before .before .before .before .before .before .before .before .before .before .before .before .before .before .before .before .before .before .before .loop .cy) (c .before .before .before .before .before .before .before .before .before .before .before .before .before .before .before .before .before .before .before .before .before .before .before .before .loop .cz)) (forms-step (c .before .before .before .before .before .before .before .before .before .before .before .before .before .before .before .before .before .before .before .before .before .before .before .before .before .before .before .before .before .before .before .before .before .args .text .now) (c .before .before .before .before .before .before .before .before .before .before .before .before .before .before .before .before .before .before .before .before .before .before .before .before .loop .at) (c .before .before .before .before .before .before .before .before .before .before .before .before .before .before .before .before .before .before .before .before .before .find .result) (omega (arith, c .before .before .before .before .before .before .before .before .before .before .before .before .before .before .before .before .before .before .before .before .before .before .before .loop-test .taken)) (c .before .before .before .before .before .before .before .before .before .before .before .before .before .before .before .before .before .before .before .before .before .find .ensures ∙ ap (λ (l : List ℕ). length (before 10 l)) (part-all _ (c .before .before .before .before .before .before .before .before .before .before .before .before .before .before .before .before .before .before .before .before .before .before .before .before .before .before .before .before .before .before .before .before .before .args .text .now)))) (c .before .before .before .before .before .before .before .before .before .before .before .before .before .before .before .before .before .before .before .before .before .before .before .before .loop .inv .1)) _ _ _ _ _ _ _ _ _ (c .before .before .before .before .before .before .before .before .before .before .before .before .before .before .before .before .before .before .before .read-line .ensures) (omega arith) (c .before .before .before .before .before .before .before .before .before .before .before .before .fill-line .ensures))
+loop-again c = (omega (arith, end-inside (c .before .before .before .before .before .before .before .before .before .before .before .before .before .before .before .before .before .before .before .before .before .before .before .before .before .before .before .before .before .before .before .before .before .args .text .now) (c .before .before .before .before .before .before .before .before .before .before .before .before .before .before .before .before .before .before .before .before .before .before .before .before .loop .at) (c .before .before .before .before .before .before .before .before .before .before .before .before .before .before .before .before .before .before .before .before .before .find .result) (omega (arith, c .before .before .before .before .before .before .before .before .before .before .before .before .before .before .before .before .before .before .before .before .before .before .before .loop-test .taken)) (c .before .before .before .before .before .before .before .before .before .before .before .before .before .before .before .before .before .before .before .before .before .find .ensures ∙ ap (λ (l : List ℕ). length (before 10 l)) (part-all _ (c .before .before .before .before .before .before .before .before .before .before .before .before .before .before .before .before .before .before .before .before .before .before .before .before .before .before .before .before .before .before .before .before .before .args .text .now)))), filling-step (subst (λ (fs : List Form). Filling (c .before .before .before .before .before .before .before .before .before .before .before .before .before .before .before .before .before .before .before .before .before .before .before .before .before .before .before .before .before .before .before .before .before .args .text .now) (c .before .before .before .before .before .before .before .before .before .before .before .before .before .before .before .before .before .before .before .before .before .before .before .before .before .before .before .before .before .before .before .before .before .args .numbers .now) (c .before .before .before .before .before .before .before .before .before .before .before .before .before .before .before .before .before .before .before .before .before .before .before .before .before .before .before .before .before .before .before .before .before .args .used) fs (c .before .before .before .before .before .before .before .before .before .before .before .before .before .before .before .before .before .before .before .before .before .before .before .before .loop .at) (c .before .before .before .before .before .before .before .before .before .before .before .before .before .before .before .before .before .before .before .before .before .before .before .before .loop .w) (c .before .before .before .before .before .before .before .before .before .before .before .before .before .before .before .before .before .before .before .before .before .before .before .before .loop .xs) (c .before .before .before .before .before .before .before .before .before .before .before .before .before .before .before .before .before .before .before .before .before .before .before .before .loop .ys) (c .before .before .before .before .before .before .before .before .before .before .before .before .before .before .before .before .before .before .before .before .before .before .before .before .loop .zs) (c .before .before .before .before .before .before .before .before .before .before .before .before .before .before .before .before .before .before .before .before .before .before .before .before .loop .cx) (c .before .before .before .before .before .before .before .before .before .before .before .before .before .before .before .before .before .before .before .before .before .before .before .before .loop .cy) (c .before .before .before .before .before .before .before .before .before .before .before .before .before .before .before .before .before .before .before .before .before .before .before .before .loop .cz)) (forms-step (c .before .before .before .before .before .before .before .before .before .before .before .before .before .before .before .before .before .before .before .before .before .before .before .before .before .before .before .before .before .before .before .before .before .args .text .now) (c .before .before .before .before .before .before .before .before .before .before .before .before .before .before .before .before .before .before .before .before .before .before .before .before .loop .at) (c .before .before .before .before .before .before .before .before .before .before .before .before .before .before .before .before .before .before .before .before .before .find .result) (omega (arith, c .before .before .before .before .before .before .before .before .before .before .before .before .before .before .before .before .before .before .before .before .before .before .before .loop-test .taken)) (c .before .before .before .before .before .before .before .before .before .before .before .before .before .before .before .before .before .before .before .before .before .find .ensures ∙ ap (λ (l : List ℕ). length (before 10 l)) (part-all _ (c .before .before .before .before .before .before .before .before .before .before .before .before .before .before .before .before .before .before .before .before .before .before .before .before .before .before .before .before .before .before .before .before .before .args .text .now)))) (c .before .before .before .before .before .before .before .before .before .before .before .before .before .before .before .before .before .before .before .before .before .before .before .before .loop .inv .1)) _ _ _ _ _ _ _ _ _ (shows _ _ (c .before .before .before .before .before .before .before .before .before .before .before .before .before .before .before .before .before .before .before .read-vertex .ensures)) (omega arith) (c .before .before .before .before .before .before .before .before .before .before .before .before .fill-line .ensures))
 
 same-length : tie.Need-same-length Inv-loop μ-loop
 same-length c = c .before .loop .inv .1 .long .xs-long ∙ sym ((c .before .before .before .before .before .before .before .before .before .before .pre .1 .1) .xs-long)
@@ -98,10 +98,10 @@ fill-lines-spec =
     part-find-end
     find-requires
     add-end
-    sub-read-line
-    part-read-line-start
-    part-read-line-end
-    read-line-requires
+    sub-read-vertex
+    part-read-vertex-start
+    part-read-vertex-end
+    read-vertex-requires
     fill-line-requires
     add-at
     loop-less
