@@ -4,7 +4,7 @@ ghost use mathlib.Core.List.{_++_};
 ghost use Prim.Native.Nat.{_≤_};
 ghost use lib.ListN.{length, take};
 ghost use Rattle.num_text.specs.Put.{Put};
-ghost use Rattle.obj_text.specs.Text.{facesOf, cornersOf};
+ghost use Rattle.obj_text.specs.Text.{lineRefusal, facesOf, cornersOf};
 ghost use Rattle.obj_part.specs.Bytes.{trailerBytes};
 ghost use Rattle.obj_part.specs.File.{vertexBlock, objRefusal};
 ghost use Rattle.obj.specs.Work.{rowsTo, Numbers, Written};
@@ -34,7 +34,7 @@ fn put_vertices(out: &mut [u8], used: usize, xs: &[f64], ys: &[f64], zs: &[f64])
 
 // The vertices of the corners with these numbers.
 fn put_corners(text: &[u8], numbers: &[u64], used: usize, out: &mut [u8]) -> usize
-    requires { ⌜ used ≤ length (now numbers) ⌝ ∗ ⌜ used ≤ 16384 ⌝ ∗ ⌜ Numbers (now text) (now numbers) used ⌝ }
+    requires { ⌜ used ≤ length (now numbers) ⌝ ∗ ⌜ used ≤ 16384 ⌝ ∗ ⌜ Numbers (now text) (now numbers) used ⌝ ∗ ⌜ lineRefusal (now text) ≡ 0 ⌝ }
     ensures { λ r. ⌜ Put (now (out .entry)) 0 (vertexBlock (now (text .entry)) (take used (now (numbers .entry)))) (now (out .exit)) r ⌝ }
 {
     let mut xs = [0.0f64; 16_384];

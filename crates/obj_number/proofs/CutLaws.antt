@@ -3,14 +3,14 @@ use mathlib.Core.Path.{_≡_, refl, sym, ap, _∙_}
 use mathlib.Core.Bool.{Bool, true, false, cond}
 use mathlib.Core.List.{List, [], _∷_}
 use Prim.Native.Nat.{ℕ, suc, zero-le, _+_, _-_, _≤_, _<_, min}
-use native.Mathlib.Nat.{le-of-eq}
+use native.Mathlib.Nat.{zero-add, le-of-eq}
 use native.Mathlib.Numerals.{add-one}
 use native.Mathlib.Omega.{arith}
 use lib.Dec.{eqb}
-use lib.ListN.{length, getD, take, drop, length-drop}
+use lib.ListN.{length, getD, take, drop, length-drop, drop-of-length-le}
 use lib.Seq.{drop-cons, drop-nil, take-all}
 use borrow.Author.Tests.{eq-eqb, ne-eqb}
-use Rattle.obj_number.specs.Cut.{before, after}
+use Rattle.obj_number.specs.Cut.{before, after, NoneTo}
 
 -- ---- one byte more
 before-here : (b c : ℕ) (l : List ℕ) → c ≡ b → before b (c ∷ l) ≡ []
@@ -29,6 +29,28 @@ at-more b s i h n =
     ap (λ (l : List ℕ). length (before b l)) (drop-cons s i 0 h)
     ∙ ap length (before-more b (getD s i 0) (drop (suc i) s) n)
     ∙ ap (λ (k : ℕ). suc (length (before b (drop k s)))) (sym (add-one i))
+
+pub none-start : (b : ℕ) (s : List ℕ) → NoneTo b s 0
+none-start b s = record { inside = zero-le; rest = zero-add _ }
+
+pub none-more : (b : ℕ) (s : List ℕ) (i : ℕ) → NoneTo b s i → i < length s → (getD s i 0 ≡ b → ⊥) → NoneTo b s (i + 1)
+none-more b s i k h n =
+    let e = k .rest in
+    let m = at-more b s i h n in
+    record { inside = omega (arith, h); rest = omega (arith, e, m) }
+
+pub none-here : (b : ℕ) (s : List ℕ) (i : ℕ) → NoneTo b s i → i < length s → getD s i 0 ≡ b → i ≡ length (before b s)
+none-here b s i k h e =
+    let r = k .rest in
+    let z = at-here b s i h e in
+    omega (arith, r, z)
+
+pub none-end : (b : ℕ) (s : List ℕ) (i : ℕ) → NoneTo b s i → length s ≤ i → i ≡ length (before b s)
+unfolding before
+none-end b s i k h =
+    let r = k .rest in
+    let none : length (before b (drop i s)) ≡ 0 = ap (λ (l : List ℕ). length (before b l)) (drop-of-length-le s h) in
+    omega (arith, r, none)
 
 -- ---- the two parts
 pub before-length : (b : ℕ) (l : List ℕ) → length (before b l) ≤ length l

@@ -24,6 +24,9 @@ fn append(n: u64, b: u8) -> u64
     requires { ⌜ isDigit b ≡ true ⌝ }
     ensures { λ r. ⌜ r ≡ capped (n * 10 + (b - 48)) ⌝ }
 {
+    if n < 0xccc_cccc_cccc_cccc {
+        return n * 10 + (b - 48) as u64;
+    }
     if n < 0x1000_0000_0000_0000 {
         let more = n * 10 + (b - 48) as u64;
         if more < CAP {

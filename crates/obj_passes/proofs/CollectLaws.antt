@@ -22,7 +22,7 @@ use Rattle.obj_tables.specs.Tables.{cellOf, Pushed}
 use Rattle.obj_part.specs.Bytes.{le32, entryBytes}
 use Rattle.obj_part.specs.File.{entriesFrom}
 use Rattle.obj_passes.specs.declared.collect.Run.{Run}
-use Rattle.obj_passes.specs.Work.{Formed, numbersOf, indexAfter, entryOf, CollectedLine}
+use Rattle.obj_passes.specs.Work.{Formed, AllFormed, numbersOf, indexAfter, entryOf, CollectedLine}
 use Rattle.obj_passes.specs.Passes.{Collected}
 use Rattle.obj_passes.proofs.KindLaws.{Told, form-told, Kind, form-kind}
 
@@ -54,7 +54,7 @@ face-from fs b (face ns) e t k g =
       entry-is = λ i first. refl;
     }
 face-from fs b (group i) e t k g = absurd (omega arith)
-face-from fs b skipped e t k g = absurd (k e)
+face-from fs b skipped e t k g = absurd (omega (arith, k, e))
 face-from fs b other e t k g = absurd (g refl)
 
 pub face-is : (l : List ℕ) → getD l 0 0 ≡ 102 → Formed (formOf l) → FaceIs (fieldsAfter (drop 1 l)) (formOf l)
@@ -193,11 +193,7 @@ places-step i u skipped fs = sym (zero-add _)
 places-step i u other fs = sym (zero-add _)
 
 -- no line of a text that is not refused is of any other form
-unfoldable pub AllFormed : List Form → Type 0
-AllFormed [] = Unit {0}
-AllFormed (f ∷ fs) = Formed f × AllFormed fs
-
-all-formed : (fs : List Form) (n : ℕ) → refusalFrom n fs ≡ 0 → AllFormed fs
+pub all-formed : (fs : List Form) (n : ℕ) → refusalFrom n fs ≡ 0 → AllFormed fs
 unfolding AllFormed Formed refusalFrom
 all-formed [] n h = tt
 all-formed (vertex v ∷ fs) n h = (λ (e : vertex v ≡ other). clash cc, all-formed fs (n + 1) h)

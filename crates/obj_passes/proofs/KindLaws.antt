@@ -2,7 +2,7 @@
 use mathlib.Core.Path.{_≡_, refl, sym, subst}
 use mathlib.Core.Bool.{Bool, true, false, _&&_, cond}
 use mathlib.Core.List.{List, [], _∷_, map}
-use Prim.Native.Nat.{ℕ, _≤_, _^_}
+use Prim.Native.Nat.{ℕ, _≤_, _<_, _^_}
 use native.Mathlib.Nat.{le-trans, le-of-eq}
 use native.Mathlib.Omega.{arith}
 use lib.Dec.{eqb, leb, ltb}
@@ -100,7 +100,7 @@ unfoldable pub Kind : ℕ → Form → Type 0
 Kind b (vertex v) = b ≡ 118
 Kind b (face ns) = b ≡ 102
 Kind b (group i) = b ≡ 103
-Kind b skipped = b ≡ 102 → ⊥
+Kind b skipped = b < 102
 Kind b other = Unit {0}
 
 kind-if : (b : ℕ) (t : Bool) (f : Form) → Kind b f → Kind b (cond t f other)
@@ -145,11 +145,11 @@ field-kind b false w fs = byte-kind b w fs
 
 pub form-kind : (l : List ℕ) → Kind (getD l 0 0) (formOf l)
 unfolding formOf before Kind
-form-kind [] = λ (e : _≡_ {A = ℕ} 0 102). omega arith
+form-kind [] = omega arith
 form-kind (b ∷ l) = go (eqb b 35) refl
   where
     go : (t : Bool) → eqb b 35 ≡ t → Kind b (cond t skipped (fieldsForm (fieldsOf (b ∷ l))))
-    go true e = λ (h : b ≡ 102). let k : b ≡ 35 = eqb-true b 35 e in omega arith
+    go true e = let k : b ≡ 35 = eqb-true b 35 e in omega (arith, k)
     go false e =
         subst (λ (fs : List (List ℕ)). Kind b (fieldsForm fs)) (sym (fields-are (b ∷ l)))
         (field-kind b (eqb b 32) (before 32 l) (fieldsAfter (drop (length (before 32 (b ∷ l))) (b ∷ l))))

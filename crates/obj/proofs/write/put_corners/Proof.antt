@@ -26,7 +26,7 @@ slice-aggregate-fill-6 : tie.Need-slice-aggregate-fill-6
 slice-aggregate-fill-6 c = search needs
 
 fill-requires : tie.Need-fill-requires
-fill-requires c κs = (c .before .before .before .before .before .before .before .before .before .pre .0, (c .before .before .before .before .before .before .before .before .before .pre .1 .0, record { xs-long = length-replicate 16384 (ofBits binary64 0); ys-long = length-replicate 16384 (ofBits binary64 0); zs-long = length-replicate 16384 (ofBits binary64 0); cx-long = length-replicate 16384 (ofBits binary64 0); cy-long = length-replicate 16384 (ofBits binary64 0); cz-long = length-replicate 16384 (ofBits binary64 0) }))
+fill-requires c κs = (c .before .before .before .before .before .before .before .before .before .pre .0, (c .before .before .before .before .before .before .before .before .before .pre .1 .0, (record { xs-long = length-replicate 16384 (ofBits binary64 0); ys-long = length-replicate 16384 (ofBits binary64 0); zs-long = length-replicate 16384 (ofBits binary64 0); cx-long = length-replicate 16384 (ofBits binary64 0); cy-long = length-replicate 16384 (ofBits binary64 0); cz-long = length-replicate 16384 (ofBits binary64 0) }, c .before .before .before .before .before .before .before .before .before .pre .1 .1 .1)))
 
 slice-aggregate-put-vertices : tie.Need-slice-aggregate-put-vertices
 slice-aggregate-put-vertices c = search needs
@@ -44,7 +44,7 @@ same-length : tie.Need-same-length
 same-length c = put-length _ (c .before .before .put-vertices .ensures)
 
 returns : tie.Need-returns
-returns c = put-block (c .before .before .before .before .before .before .before .before .before .before .before .before .before .before .before .before .before .before .before .before .before .before .before .args .text .now) (c .before .before .before .before .before .before .before .before .before .before .before .before .before .before .before .before .before .before .before .before .before .before .before .args .numbers .now) _ _ _ (c .before .before .before .before .before .before .before .before .before .before .before .before .before .before .before .before .before .before .before .before .before .before .before .args .used) (c .before .before .before .before .before .before .before .before .before .before .before .before .before .before .before .before .before .before .before .before .before .before .before .pre .0) (c .before .before .before .before .before .before .before .before .before .before .before .before .before .before .before .before .before .before .before .before .before .before .before .pre .1 .1) (c .before .before .before .before .before .before .before .before .before .before .before .before .before .fill .ensures) (c .before .before .put-vertices .ensures)
+returns c = put-block (c .before .before .before .before .before .before .before .before .before .before .before .before .before .before .before .before .before .before .before .before .before .before .before .args .text .now) (c .before .before .before .before .before .before .before .before .before .before .before .before .before .before .before .before .before .before .before .before .before .before .before .args .numbers .now) _ _ _ (c .before .before .before .before .before .before .before .before .before .before .before .before .before .before .before .before .before .before .before .before .before .before .before .args .used) (c .before .before .before .before .before .before .before .before .before .before .before .before .before .before .before .before .before .before .before .before .before .before .before .pre .0) (c .before .before .before .before .before .before .before .before .before .before .before .before .before .before .before .before .before .before .before .before .before .before .before .pre .1 .1 .0) (c .before .before .before .before .before .before .before .before .before .before .before .before .before .fill .ensures) (c .before .before .put-vertices .ensures)
 
 pub put-corners-spec : {M : Type 1} → statement M
 put-corners-spec =

@@ -26,7 +26,7 @@ slice-aggregate-put-corners : tie.Need-slice-aggregate-put-corners
 slice-aggregate-put-corners c = search needs
 
 put-corners-requires : tie.Need-put-corners-requires
-put-corners-requires c κs = let a = accepted (c .before .before .before .before .before .before .before .before .before .before .before .args .text .now) (length (c .before .before .before .before .before .before .before .before .before .before .before .args .job .now)) (length (now (c .before .before .before .before .before .before .before .before .before .before .before .args .out))) (c .before .before .before .before .before .before .before .before .before .before .before .pre .0) in let t = table (c .before .before .before .before .before .before .before .before .before .before .before .args .text .now) (replicate {A = ℕ} 16384 0) _ (omega arith) (a .lines) (a .corners-most) (length-replicate {A = ℕ} 16384 0) (c .before .before .before .before .before .collect .ensures .numbers-all) in (omega (arith, t .long, a .corners-most, c .before .before .before .before .before .before .before .before .before .before .before .pre .1 .0), (omega (arith, a .corners-most, c .before .before .before .before .before .before .before .before .before .before .before .pre .1 .0), subst (λ (k : ℕ). Numbers (c .before .before .before .before .before .before .before .before .before .before .before .args .text .now) (c .before .before .before .before .before .collect .last .1 .0) k) (sym (c .before .before .before .before .before .before .before .before .before .before .before .pre .1 .0)) (t .numbered)))
+put-corners-requires c κs = let a = accepted (c .before .before .before .before .before .before .before .before .before .before .before .args .text .now) (length (c .before .before .before .before .before .before .before .before .before .before .before .args .job .now)) (length (now (c .before .before .before .before .before .before .before .before .before .before .before .args .out))) (c .before .before .before .before .before .before .before .before .before .before .before .pre .0) in let t = table (c .before .before .before .before .before .before .before .before .before .before .before .args .text .now) (replicate {A = ℕ} 16384 0) _ (omega arith) (a .lines) (a .corners-most) (length-replicate {A = ℕ} 16384 0) (c .before .before .before .before .before .collect .ensures .numbers-all) in (omega (arith, t .long, a .corners-most, c .before .before .before .before .before .before .before .before .before .before .before .pre .1 .0), (omega (arith, a .corners-most, c .before .before .before .before .before .before .before .before .before .before .before .pre .1 .0), (subst (λ (k : ℕ). Numbers (c .before .before .before .before .before .before .before .before .before .before .before .args .text .now) (c .before .before .before .before .before .collect .last .1 .0) k) (sym (c .before .before .before .before .before .before .before .before .before .before .before .pre .1 .0)) (t .numbered), a .lines)))
 
 mul-put-end : tie.Need-mul-put-end
 mul-put-end c = let a = accepted (c .before .before .before .before .before .before .before .before .before .before .before .before .before .before .before .args .text .now) (length (c .before .before .before .before .before .before .before .before .before .before .before .before .before .before .before .args .job .now)) (length (now (c .before .before .before .before .before .before .before .before .before .before .before .before .before .before .before .args .out))) (c .before .before .before .before .before .before .before .before .before .before .before .before .before .before .before .pre .0) in omega (arith, a .faces-most, c .before .before .before .before .before .before .before .before .before .before .before .before .before .before .before .pre .1 .1)

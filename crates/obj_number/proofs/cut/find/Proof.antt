@@ -1,49 +1,42 @@
--- `obj_number::cut::find` meets its contract: the bytes passed and those before the first b of the rest make up the whole.
+-- `obj_number::cut::find` meets its contract: there is no b among the bytes passed.
 use borrow.Author.Needs.{needs}
-use mathlib.Core.Path.{_≡_, ap, sym, _∙_}
-use mathlib.Core.List.{List}
-use Prim.Native.Nat.{ℕ, _≤_, _+_, _-_}
-use lib.ListN.{length, drop}
-use lib.ListN.{drop-of-length-le}
-use Rattle.obj_number.specs.Cut.{before}
-use Rattle.obj_number.proofs.CutLaws.{at-here, at-more}
+use Prim.Native.Nat.{_-_}
+use lib.ListN.{length}
+use Rattle.obj_number.specs.Cut.{NoneTo}
+use Rattle.obj_number.proofs.CutLaws.{none-here, none-more, none-end}
 use native.Mathlib.Omega.{arith}
 use Rattle.obj_number.proofs.cut.find.Statement.{statement}
 use Rattle.obj_number.proofs.cut.find.Tie as tie
 
-ended : (b : ℕ) (s : List ℕ) (i : ℕ) → length s ≤ i → (i ≤ length s) × (i + length (before b (drop i s)) ≡ length (before b s)) → i ≡ length (before b s)
-unfolding before
-ended b s i h v =
-    let none : length (before b (drop i s)) ≡ 0 = ap (λ (l : List ℕ). length (before b l)) (drop-of-length-le s h) in
-    omega arith
-
 abbrev Inv-loop : tie.InvT-loop
-Inv-loop s b i₀ i = (i ≤ length s) × (i + length (before b (drop i s)) ≡ length (before b s))
+Inv-loop s b i₀ i = NoneTo b s i
 
 abbrev μ-loop : tie.MeasureT-loop
 μ-loop s b i₀ i = length s - i
 
+find-by-four-requires : tie.Need-find-by-four-requires Inv-loop μ-loop
+find-by-four-requires c κs = search needs
+
 loop-holds : tie.Need-loop-holds Inv-loop μ-loop
-loop-holds c = (omega arith, omega arith)
+loop-holds c = c .find-by-four .ensures
 
 shared-slice-read-if1 : tie.Need-shared-slice-read-if1 Inv-loop μ-loop
-shared-slice-read-if1 c = omega arith
+shared-slice-read-if1 c = omega (arith, c .before .loop-test .taken)
 
 returns : tie.Need-returns Inv-loop μ-loop
-returns c = omega (arith, at-here (c .before .before .before .before .args .b) (c .before .before .before .before .args .s .now) (c .before .before .before .loop .i) (c .before .before .loop-test .taken) (c .if1 .taken))
+returns c = none-here (c .before .before .before .before .before .before .args .b) (c .before .before .before .before .before .before .args .s .now) (c .before .before .before .loop .i) (c .before .before .before .loop .inv) (c .before .before .loop-test .taken) (c .if1 .taken)
 
 add-i : tie.Need-add-i Inv-loop μ-loop
-add-i c = omega arith
+add-i c = omega (arith, c .before .before .loop-test .taken)
 
 loop-less : tie.Need-loop-less Inv-loop μ-loop
-loop-less c = omega arith
+loop-less c = omega (arith, c .before .before .loop-test .taken)
 
 loop-again : tie.Need-loop-again Inv-loop μ-loop
-loop-again c = (omega arith, omega (arith, at-more (c .before .before .before .before .args .b) (c .before .before .before .before .args .s .now) (c .before .before .before .loop .i) (c .before .before .loop-test .taken) (c .if1 .left)))
+loop-again c = none-more (c .before .before .before .before .before .before .args .b) (c .before .before .before .before .before .before .args .s .now) (c .before .before .before .loop .i) (c .before .before .before .loop .inv) (c .before .before .loop-test .taken) (c .if1 .left)
 
 returns-2 : tie.Need-returns-2 Inv-loop μ-loop
-unfolding before
-returns-2 c = ended (c .before .before .args .b) (c .before .before .args .s .now) (c .before .loop .i) (c .loop-test .left) (c .before .loop .inv)
+returns-2 c = none-end (c .before .before .before .before .args .b) (c .before .before .before .before .args .s .now) (c .before .loop .i) (c .before .loop .inv) (c .loop-test .left)
 
 pub find-spec : {M : Type 1} → statement M
 find-spec =
@@ -51,6 +44,7 @@ find-spec =
     (tie.spec
     Inv-loop
     μ-loop
+    find-by-four-requires
     loop-holds
     shared-slice-read-if1
     returns
