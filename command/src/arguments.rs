@@ -13,7 +13,7 @@ Checks machined, bent and printed parts before they are made.
     gablemadder picture [--from x,y,z] FILE > FILE.svg   draws a part with its findings
     gablemadder --help, --version
 
-A file named - is standard input. Words after -- are files.
+A file named - is standard input, and after -o standard output. Words after -- are files.
 
 check prints a report as the library writes it, byte for byte; with several files a line `== FILE` stands before each report. With --json it prints
 one JSON object a line for each file: file, findings (severity, rule, count, faces, message), thickness, bends and height; or file and refusal (number,
@@ -88,6 +88,12 @@ fn obj(mut rest: Rest) -> Result<Command, String> {
     if as_json && !is_checked {
         return Err(see_help("--json is for reports, and --check is not there"));
     }
+    // `-` names standard output, as it names standard input where a file is read
+    let to_output = to.as_ref().is_some_and(|name| name == "-");
+    if to_output && is_checked {
+        return Err(see_help("-o - and --check would both write to standard output"));
+    }
+    let to = to.filter(|_| !to_output);
     let said = rest.values(&settings::NAMES);
     let text = rest.file()?;
     let job = settings::job(&said).map_err(|what| see_help(&what))?;

@@ -135,6 +135,8 @@ fn obj_text_is_made_a_part_file() {
     assert_eq!(made.stdout, fs::read(PLATE).unwrap());
     assert_eq!((text(&made.stderr), made.status.code()), ("", Some(0)));
     let (from, to) = (file("plate.obj", plate_obj(".5").as_bytes()), file("plate_of_obj.part", b"before"));
+    let to_output = run(&["obj", &from, "-o", "-", "--process=CNC"]);
+    assert_eq!(to_output.stdout, made.stdout);
     let made = run(&["obj", &from, "-o", &to, "--process=CNC"]);
     assert_eq!((text(&made.stdout), text(&made.stderr), made.status.code()), ("", "", Some(0)));
     assert_eq!(fs::read(&to).unwrap(), fs::read(PLATE).unwrap());
@@ -161,6 +163,7 @@ fn the_job_of_obj_text_is_said_by_options() {
     said(&["obj", "part.obj", "--process", "CNC", "--layers", "1"], "there is no option \"--layers\" here");
     said(&["obj", "--process", "CNC"], "no file is named");
     said(&["obj", "part.obj", "--process", "CNC", "--json"], "--json is for reports, and --check is not there");
+    said(&["obj", "part.obj", "--process", "CNC", "--check", "-o", "-"], "-o - and --check would both write to standard output");
     said(&["check", "part.obj", "--process", "CNC"], "there is no option \"--process\" here");
 }
 
