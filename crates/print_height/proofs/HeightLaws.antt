@@ -10,11 +10,12 @@ use lib.Ieee.{Float, binary64, div, neg, ofBits}
 use Rattle.math.specs.declared.Vec3.{Vec3}
 use Rattle.math.specs.Vector.{dotOf}
 use Rattle.math.specs.Vector as vector
+use Rattle.math.specs.Size.{VecWithin}
 use Rattle.file_field.specs.Field.{vecAt}
 use Rattle.file_part.specs.Layout.{vertexCount}
 use Rattle.file_part.specs.Part.{Part, partOf}
 use Rattle.file_part.proofs.PartLaws.{part-vertices, part-vertex}
-use Rattle.file_ok.proofs.ReadableLaws.{readable-vertex-room, readable-counts}
+use Rattle.file_ok.proofs.ReadableLaws.{readable-vertex, readable-vertex-room, readable-counts}
 use Rattle.solid_faces.specs.Faces.{Checked}
 use Rattle.solid_faces.proofs.BodyLaws.{readable-long, checked-readable}
 use Rattle.round_frame.specs.declared.extent.Extent.{Extent}
@@ -25,8 +26,11 @@ use Rattle.print_height.specs.Height.{heightsTo}
 pub checked-long : (s : List ℕ) → Checked s → 16 ≤ length s
 checked-long s h = readable-long s (checked-readable s h)
 
-pub vertex-room : (s : List ℕ) (n i : ℕ) → Checked s → n ≡ vertexCount s → i < n → 24 * i + 24 ≤ length s
-vertex-room s n i h e l = readable-vertex-room s (checked-readable s h) i (omega (arith, e, l))
+pub vertex-room : (s : List ℕ) (n i : ℕ) → Checked s → n ≡ vertexCount s → i < n →
+    (24 * i + 24 ≤ length s) × VecWithin (vecAt s (24 * i)) 10000
+vertex-room s n i h e l =
+    let low : i < vertexCount s = omega (arith, e, l) in
+    (readable-vertex-room s (checked-readable s h) i low, readable-vertex s (checked-readable s h) i low)
 
 pub few-vertices : (s : List ℕ) (n : ℕ) → Checked s → n ≡ vertexCount s → n ≤ 16384
 few-vertices s n h e = omega (arith, e, readable-counts s (checked-readable s h) .0)

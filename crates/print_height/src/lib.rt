@@ -3,7 +3,7 @@ ghost use mathlib.Core.Path.{_≡_};
 ghost use Rattle.file_part.specs.Part.{partOf};
 ghost use Rattle.solid_faces.specs.Faces.{Checked};
 ghost use Rattle.print_height.specs.Height.{heightsTo};
-use file_part::read::vertex;
+use file_part::corner::corner;
 use file_part::read::vertex_count;
 use math::Vec3;
 use round_frame::extent::Extent;
@@ -20,7 +20,7 @@ pub fn heights(file: &[u8], up: Vec3) -> Extent
     };
     let mut i: usize = 0;
     while i < n {
-        e = e.reach(vertex(file, i).dot(up));
+        e = e.reach(corner(file, i).dot(up));
         i += 1;
     }
     e

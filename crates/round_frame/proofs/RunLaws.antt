@@ -17,9 +17,9 @@ use Rattle.file_ok.specs.Work.{Readable}
 use Rattle.file_ok.proofs.PolygonLaws.{start-more}
 use Rattle.file_ok.proofs.ReadableLaws.{readable-run}
 use Rattle.solid_polygon.specs.Polygon.{centroidOf}
-use Rattle.solid_polygon.specs.Work.{cornerAt}
+use Rattle.solid_polygon.specs.Work.{cornerAt, Corners}
 use Rattle.solid_faces.specs.Faces.{polygonCorner, polygonPlane, polygonArea}
-use Rattle.solid_faces.proofs.BodyLaws.{EntryRoom, entry-room, RunRoom, run-room}
+use Rattle.solid_faces.proofs.BodyLaws.{EntryRoom, entry-room, RunRoom, run-room, run-corners}
 use Rattle.round_hole.specs.declared.direction.Direction.{Direction}
 use Rattle.round_frame.specs.declared.frame.Frame.{Frame}
 use Rattle.round_frame.specs.declared.extent.Extent.{Extent}
@@ -55,6 +55,9 @@ module _ (s : List ℕ) (v q at first n : ℕ) (readable : Readable s) (ev : v �
   pub run-of : RunRoom s first n
   run-of =
       run-room s v (partOf s .polygons) q first n readable ev (part-polygons s) low (ef ∙ ap (firstAt s) place) (en ∙ ap (countAt s) place)
+
+  pub corners-of : Corners s first n
+  corners-of = run-corners s v (partOf s .polygons) q at first n readable ev (part-polygons s) low place ef en
 
   -- what it begins with, and where it ends: the runs before it have as many vertices as its first one's number says
   pub run-starts : first ≡ runStart s v q

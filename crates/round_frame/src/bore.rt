@@ -18,11 +18,11 @@ ghost use Rattle.round_frame.specs.Frame.{vertexDirections, runDirection
 ghost use Rattle.round_frame.specs.Work.{Central, DirectionsPut};
 ghost use Rattle.round_frame.specs.Polygons.{directionsTo};
 use crate::frame::Frame;
+use file_part::corner::corner;
 use file_part::read::entry_at;
 use file_part::read::first_vertex;
 use file_part::read::polygon_count;
 use file_part::read::run_length;
-use file_part::read::vertex;
 use file_part::read::vertex_count;
 use math::Vec3;
 use round_hole::cells::pack;
@@ -61,7 +61,7 @@ fn run_directions(
     let mut m = n;
     let mut k: usize = 0;
     while k < count {
-        m = put_directions(cells, m, frame, vertex(file, first + k));
+        m = put_directions(cells, m, frame, corner(file, first + k));
         k += 1;
     }
     m

@@ -1,22 +1,21 @@
 // How far a face reaches along its axis.
 ghost use mathlib.Core.Path.{_≡_};
 ghost use mathlib.Core.Bool.{true};
-ghost use Prim.Native.Nat.{_+_, _*_, _≤_, _<_};
-ghost use lib.ListN.{length};
+ghost use Prim.Native.Nat.{_<_};
 ghost use Rattle.file_part.specs.Layout.{vertexCount};
 ghost use Rattle.file_part.specs.Part.{partOf};
 ghost use Rattle.file_ok.specs.Work.{Readable};
-ghost use Rattle.solid_polygon.specs.Work.{cornerAt};
+ghost use Rattle.solid_polygon.specs.Work.{cornerAt, Corners};
 ghost use Rattle.solid_faces.specs.Faces.{isNew, faceNumber, polygonCorner};
 ghost use Rattle.solid_faces.specs.Kept.{Chain};
 ghost use Rattle.round_frame.specs.Frame.{reach, runExtent};
 ghost use Rattle.round_frame.specs.Polygons.{extentTo};
 use crate::frame::Frame;
+use file_part::corner::corner;
 use file_part::read::entry_at;
 use file_part::read::first_vertex;
 use file_part::read::polygon_count;
 use file_part::read::run_length;
-use file_part::read::vertex;
 use file_part::read::vertex_count;
 use num_real::select::max;
 use num_real::select::min;
@@ -41,13 +40,13 @@ impl Extent {
 
 // With the corners of a polygon more.
 fn run_extent(file: &[u8], first: usize, count: usize, frame: Frame, extent: Extent) -> Extent
-    requires { ⌜ 24 * (first + count) ≤ length (now file) ⌝ }
+    requires { ⌜ Corners (now file) first count ⌝ }
     ensures { λ r. ⌜ r ≡ runExtent frame (cornerAt (now (file .entry)) first) extent count ⌝ }
 {
     let mut e = extent;
     let mut k: usize = 0;
     while k < count {
-        e = e.reach(frame.height(vertex(file, first + k)));
+        e = e.reach(frame.height(corner(file, first + k)));
         k += 1;
     }
     e

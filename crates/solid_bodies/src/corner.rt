@@ -7,11 +7,11 @@ ghost use Rattle.file_part.specs.Layout.{vertexCount};
 ghost use Rattle.file_part.specs.Part.{partOf};
 ghost use Rattle.file_ok.specs.Work.{Readable};
 ghost use Rattle.solid_bodies.specs.Work.{numberOf, KeyPut, Keyed, Owned, Cornered};
+use file_part::corner::corner;
 use file_part::read::entry_at;
 use file_part::read::first_vertex;
 use file_part::read::polygon_count;
 use file_part::read::run_length;
-use file_part::read::vertex;
 use list_cells::fill_words;
 use num_real::rounding::round_i64;
 
@@ -28,7 +28,7 @@ fn put_key(file: &[u8], corners: &mut [u32], n: usize, v: usize)
     requires { ⌜ Readable (now file) ⌝ ∗ ⌜ n ≡ vertexCount (now file) ⌝ ∗ ⌜ length (now corners) ≡ 4 * n ⌝ ∗ ⌜ v < n ⌝ }
     ensures { λ _. ⌜ KeyPut (partOf (now (file .entry))) n v (now (corners .entry)) (now (corners .exit)) ⌝ }
 {
-    let at = vertex(file, v);
+    let at = corner(file, v);
     let k = n + 3 * v;
     corners[k] = key_number(at.x);
     corners[k + 1] = key_number(at.y);

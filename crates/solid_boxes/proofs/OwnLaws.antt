@@ -23,7 +23,7 @@ use Rattle.file_part.specs.Layout.{vertexCount, polygonCount, entryAt}
 use Rattle.file_part.specs.Part.{firstAt, countAt, polygonAt, partOf}
 use Rattle.file_part.proofs.PartLaws.{part-polygons, part-count}
 use Rattle.file_ok.proofs.ReadableLaws.{readable-counts, readable-run, readable-vertex, readable-index}
-use Rattle.solid_polygon.specs.Work.{cornerAt}
+use Rattle.solid_polygon.specs.Work.{cornerAt, Corners}
 use Rattle.solid_faces.specs.Faces.{polygonCorner, Checked}
 use Rattle.solid_faces.proofs.BodyLaws.{checked-readable}
 use Rattle.solid_boxes.specs.declared.bounds.Bounds.{Bounds}
@@ -32,6 +32,23 @@ use Rattle.solid_boxes.specs.Work.{Fit, Tidy}
 
 pub small-count : (s : List ℕ) → Checked s → (n : ℕ) → n ≡ polygonCount s → n ≤ 4096
 small-count s C n e = omega (arith, e, readable-counts s (checked-readable s C) .1)
+
+-- ---- the lower and the higher of two, where the first is no NaN
+pub min-taken : (a x : Float) → isNan a ≡ false → lt x a ≡ true → x ≡ minOf a x
+unfolding minOf
+min-taken a x n h = rw (n, h)
+
+pub min-left : (a x : Float) → isNan a ≡ false → lt x a ≡ false → a ≡ minOf a x
+unfolding minOf
+min-left a x n h = rw (n, h)
+
+pub max-taken : (a x : Float) → isNan a ≡ false → lt a x ≡ true → x ≡ maxOf a x
+unfolding maxOf
+max-taken a x n h = rw (n, h)
+
+pub max-left : (a x : Float) → isNan a ≡ false → lt a x ≡ false → a ≡ maxOf a x
+unfolding maxOf
+max-left a x n h = rw (n, h)
 
 -- ---- bounds of an axis: the low one not above the high one, and both at most b in size
 record Sized (l h : Float) (b : ℕ) : Type 0 where
@@ -169,6 +186,11 @@ module _ (s : List ℕ) (first : ℕ) where
       d ≡ hullOf (cornerAt s first) (k + 1)
   unfolding hullOf cornerAt
   hull-more k b d q e f g = g ∙ rw (add-one, e, f)
+
+  -- a box that is begun has an inside
+  pub hull-tidy : (n k : ℕ) (b : Bounds) → Corners s first n → 0 < n → k ≤ n → b ≡ hullOf (cornerAt s first) k → Tidy b
+  unfolding cornerAt
+  hull-tidy n k b h some l e = subst Tidy (sym e) (sized-tidy _ _ (hull-sized (cornerAt s first) n k 10000 some l (h .each)))
 
   pub hull-all : (k n : ℕ) (b c d : Bounds) → k ≡ n → b ≡ hullOf (cornerAt s first) k → c ≡ widened e-6 b → d ≡ widened e-9 c →
       d ≡ padded (widened e-6 (hullOf (cornerAt s first) n))

@@ -6,8 +6,6 @@ ghost use lib.ListN.{length, set};
 ghost use Rattle.solid_boxes.specs.Tree.{Order};
 ghost use Rattle.solid_boxes.specs.Work.{swapped, Keyed, Split};
 use list_cells::cell;
-use num_real::select::max;
-use num_real::select::min;
 
 // Cell i becomes v.
 pub fn put_cell(words: &mut [u32], i: usize, v: usize)
@@ -44,6 +42,15 @@ fn key_at(keys: &[f64], i: usize) -> f64
     keys[i]
 }
 
+// Keys are no NaN, so that neither of these tests for one.
+fn lower(a: f64, x: f64) -> f64 {
+    if x < a { x } else { a }
+}
+
+fn higher(a: f64, x: f64) -> f64 {
+    if a < x { x } else { a }
+}
+
 // How far keys reach on an axis.
 struct Extent {
     lo: f64,
@@ -53,8 +60,8 @@ struct Extent {
 impl Extent {
     fn with(self, x: f64) -> Extent {
         Extent {
-            lo: min(self.lo, x),
-            hi: max(self.hi, x),
+            lo: lower(self.lo, x),
+            hi: higher(self.hi, x),
         }
     }
 }

@@ -21,10 +21,10 @@ use Rattle.file_ok.specs.Rules.{runStart}
 use Rattle.file_ok.specs.Verdict.{number, verdictOf}
 use Rattle.file_ok.specs.Work.{Readable}
 use Rattle.file_part.proofs.PartLaws.{part-polygons}
-use Rattle.file_ok.proofs.ReadableLaws.{readable-length, readable-counts, readable-run, readable-whole}
+use Rattle.file_ok.proofs.ReadableLaws.{readable-length, readable-counts, readable-run, readable-whole, readable-vertex, readable-index}
 use Rattle.solid_polygon.specs.declared.polygon.Plane.{Plane}
 use Rattle.solid_polygon.specs.Polygon.{areaOf}
-use Rattle.solid_polygon.specs.Work.{cornerAt}
+use Rattle.solid_polygon.specs.Work.{cornerAt, Corners}
 use Rattle.solid_polygon.specs.Plane.{isFlat, planeOf}
 use Rattle.solid_faces.specs.Faces.{facesOf, faceNumber, polygonCorner, polygonFlat, polygonPlane, polygonArea, someFlat, tooManyFaces, bodyVerdict, Checked}
 use Rattle.solid_faces.proofs.FaceLaws.{number-below}
@@ -56,6 +56,18 @@ run-room s v m p first n h a b l e q =
     let f : first ≡ firstAt s (entryAt (vertexCount s) p) = e ∙ ap (λ (k : ℕ). firstAt s (entryAt k p)) a in
     let c : n ≡ countAt s (entryAt (vertexCount s) p) = q ∙ ap (λ (k : ℕ). countAt s (entryAt k p)) a in
     record { inside = omega (arith, readable-length s h, r .first, r .inside, f, c); least = omega (arith, r .least, c); most = omega (arith, r .most, c) }
+
+-- a polygon's corners, by its run in the file
+pub run-corners : (s : List ℕ) (v m p at first n : ℕ) → Readable s → v ≡ vertexCount s → m ≡ polygonCount s → p < m → at ≡ entryAt v p →
+    first ≡ firstAt s at → n ≡ countAt s at → Corners s first n
+run-corners s v m p at first n h a b l i e q =
+    let place : at ≡ entryAt (vertexCount s) p = i ∙ ap (λ (k : ℕ). entryAt k p) a in
+    let f : first ≡ firstAt s (entryAt (vertexCount s) p) = rw place at e in
+    let c : n ≡ countAt s (entryAt (vertexCount s) p) = rw place at q in
+    record {
+      inside = run-room s v m p first n h a b l (rw i at e) (rw i at q) .inside;
+      each = λ k low. readable-vertex s h (first + k) (omega (arith, f, readable-index s h p (omega (arith, b, l)) k (omega (arith, c, low))));
+    }
 
 -- each polygon has three vertices at least
 runs-three : (s : List ℕ) → Readable s → (p : ℕ) → p ≤ polygonCount s → 3 * p ≤ runStart s (vertexCount s) p

@@ -1,20 +1,30 @@
 -- The loops over a polygon's corners, one step each, in the words of what the code calls.
-use mathlib.Core.Path.{_≡_, refl, _∙_, subst}
+use mathlib.Core.Path.{_≡_, refl, sym, ap, _∙_, subst}
+use mathlib.Core.Bool.{true, false}
 use mathlib.Core.List.{List}
-use Prim.Native.Nat.{ℕ, _+_, _-_, _*_, _^_, _≤_}
+use Prim.Native.Nat.{ℕ, _+_, _-_, _*_, _^_, _≤_, _<_}
+use native.Mathlib.Omega.{arith}
 use native.Mathlib.Numerals.{add-one}
-use native.Mathlib.Nat.{le-antisymm, le-trans, add-zero}
+use native.Mathlib.Nat.{le-antisymm, add-zero}
+use native.Mathlib.Nat as nat
 use lib.Dec.{T, lit≤}
+use lib.ListN.{length}
 use lib.IntN.{pos}
 use borrow.Author.Tests.{eq-eqb, ne-eqb, le-leb}
-use lib.Ieee.{Float, binary64, add, mul, inFloat}
+use lib.Ieee.{Float, binary64, add, mul, le, lt, eq, ofBits, ofFields, odd, inFloat}
+use Rattle.num_float.specs.Sign.{NonNeg}
 use Rattle.num_float.proofs.Tests.{holds}
+use Rattle.num_float.proofs.Order.{le-trans, le-not-lt}
+use Rattle.num_root.specs.Root.{root}
+use Rattle.num_norm.proofs.RootOrder.{root-mono}
 use Rattle.math.specs.declared.Vec3.{Vec3}
-use Rattle.math.specs.Vector.{zeroVec, plus, minus, crossOf, lengthOf}
+use Rattle.math.specs.Vector.{zeroVec, plus, minus, crossOf, lengthSqOf, lengthOf}
 use Rattle.math.specs.Vector as vector
+use Rattle.math.specs.Size.{VecWithin}
 use Rattle.file_field.specs.Field.{vecAt}
 use Rattle.solid_polygon.specs.Polygon.{half, after, newellStep, newellTo, newellOf, cornersTo, triangleArea, areaTo, areaOf}
-use Rattle.solid_polygon.specs.Work.{cornerAt}
+use Rattle.solid_polygon.specs.Plane.{e-14, isFlat}
+use Rattle.solid_polygon.specs.Work.{cornerAt, Corners}
 
 -- ---- the corner after a corner
 pub after-last : (n k : ℕ) → k + 1 ≡ n → 0 ≡ after n k
@@ -24,6 +34,20 @@ after-last n k e = rw (eq-eqb _ _ e)
 pub after-next : (n k : ℕ) → (k + 1 ≡ n → ⊥) → k + 1 ≡ after n k
 unfolding after
 after-next n k e = rw (ne-eqb _ _ e)
+
+-- ---- the first corners of a run
+pub fewer : (s : List ℕ) (first n m : ℕ) → m ≤ n → Corners s first n → Corners s first m
+fewer s first n m l h = record { inside = omega (arith, l, h .inside); each = λ k b. h .each k (omega (arith, l, b)) }
+
+-- what `corner` asks for
+pub readable-corner : (s : List ℕ) (first n k : ℕ) → Corners s first n → k < n → (24 * (first + k) + 24 ≤ length s) × VecWithin (vecAt s (24 * (first + k))) 10000
+readable-corner s first n k h l = (omega (arith, l, h .inside), h .each k l)
+
+pub first-corner : (s : List ℕ) (first n : ℕ) → Corners s first n → 0 < n → (24 * first + 24 ≤ length s) × VecWithin (vecAt s (24 * first)) 10000
+first-corner s first n h l = (omega (arith, l, h .inside), subst (λ (j : ℕ). VecWithin (vecAt s (24 * j)) 10000) (add-zero first) (h .each 0 l))
+
+pub corner-zero : (s : List ℕ) (first : ℕ) (a : Vec3) → a ≡ vecAt s (24 * first) → a ≡ vecAt s (24 * (first + 0))
+corner-zero s first a e = e ∙ ap (λ (j : ℕ). vecAt s (24 * j)) (sym (add-zero first))
 
 -- ---- Newell's sum
 pub newell-none : (s : List ℕ) (first n : ℕ) → zeroVec ≡ newellTo (cornerAt s first) n 0
@@ -35,9 +59,14 @@ pub newell-more : (s : List ℕ) (first n k j : ℕ) (m a b r : Vec3) → m ≡ 
 unfolding newellTo cornerAt
 newell-more s first n k j m a b r e p q w h = h ∙ rw (e, p, w, q, add-one)
 
-pub newell-all : (s : List ℕ) (first n k : ℕ) (m : Vec3) → k ≤ n → n ≤ k → m ≡ newellTo (cornerAt s first) n k → m ≡ newellOf (cornerAt s first) n
+-- the last side ends at the first corner
+pub newell-last : (s : List ℕ) (first n k : ℕ) (m a b r : Vec3) → k < n → n ≤ k + 1 → m ≡ newellTo (cornerAt s first) n k → a ≡ vecAt s (24 * (first + k)) →
+    b ≡ vecAt s (24 * first) → r ≡ newellStep m a b → r ≡ newellOf (cornerAt s first) n
 unfolding newellOf
-newell-all s first n k m a b e = subst (λ (j : ℕ). m ≡ newellTo (cornerAt s first) n j) (le-antisymm a b) e
+newell-last s first n k m a b r l g e p w h =
+    let end : k + 1 ≡ n = omega (arith, l, g) in
+    subst (λ (j : ℕ). r ≡ newellTo (cornerAt s first) n j) end
+    (newell-more s first n k 0 m a b r e p (after-last n k end) (corner-zero s first b w) h)
 
 -- ---- the corners' sum
 pub corners-none : (s : List ℕ) (first : ℕ) → zeroVec ≡ cornersTo (cornerAt s first) 0
@@ -72,7 +101,27 @@ pub triangle : (s : List ℕ) (first k : ℕ) (o x y a b v : Vec3) (l : Float) �
 unfolding triangleArea cornerAt
 triangle s first k o x y a b v l e f g h i j z = rw (z, j, g, i, e, f, h, add-zero first)
 
+-- ---- a sum that is long by its square
+-- the f64 1e-18
+abbrev pub e-18 : Float
+e-18 = ofBits binary64 0x3c32_725d_d1d2_43ac
+
+e-14-le : le e-14 (root e-18) ≡ true
+unfolding root le lt eq ofBits ofFields odd
+e-14-le = refl
+
+e-18-up : NonNeg e-18
+unfolding le lt eq ofBits ofFields odd
+e-18-up = refl
+
+pub not-flat : (s : List ℕ) (first n : ℕ) (m : Vec3) (q : Float) → m ≡ newellOf (cornerAt s first) n → q ≡ lengthSqOf m → le e-18 q ≡ true →
+    false ≡ isFlat (cornerAt s first) n
+unfolding isFlat lengthOf lengthSqOf
+not-flat s first n m q e f h =
+    let long : le e-18 (lengthSqOf (newellOf (cornerAt s first) n)) ≡ true = rw (sym e, sym f) h in
+    sym (le-not-lt e-14 _ (le-trans e-14 (root e-18) _ e-14-le (root-mono e-18 _ e-18-up long)))
+
 -- a number of corners as f64
 pub few-cast : (n : ℕ) → n ≤ 64 → T (inFloat binary64 (pos n))
 unfolding inFloat
-few-cast n h = holds (le-leb n (2 ^ 53) (le-trans h (lit≤ tt)))
+few-cast n h = holds (le-leb n (2 ^ 53) (nat.le-trans h (lit≤ tt)))

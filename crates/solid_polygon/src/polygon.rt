@@ -1,11 +1,10 @@
 // A polygon from its run of vertices: Newell's sum, plane, centroid and area. Every loop adds in the Rust's order.
 ghost use mathlib.Core.Path.{_≡_};
-ghost use Prim.Native.Nat.{_+_, _*_, _≤_, _<_};
-ghost use lib.ListN.{length};
+ghost use Prim.Native.Nat.{_+_, _≤_, _<_};
 ghost use Rattle.solid_polygon.specs.Polygon.{after, newellStep, newellOf, cornersTo, centroidOf, triangleArea, areaOf};
-ghost use Rattle.solid_polygon.specs.Work.{cornerAt};
+ghost use Rattle.solid_polygon.specs.Work.{cornerAt, Corners};
 ghost use Rattle.solid_polygon.specs.Plane.{isFlat, planeOf};
-use file_part::read::vertex;
+use file_part::corner::corner;
 use math::Vec3;
 
 // normal . p = w for the points p of the plane.
@@ -36,33 +35,33 @@ fn newell_step(n: Vec3, a: Vec3, b: Vec3) -> Vec3
     }
 }
 
-// Newell's sum over the sides.
+// Newell's sum over the sides. A side begins where the one before it ends, so that each corner is read once.
 fn newell(file: &[u8], first: usize, count: usize) -> Vec3
-    requires { ⌜ 24 * (first + count) ≤ length (now file) ⌝ }
+    requires { ⌜ Corners (now file) first count ⌝ ∗ ⌜ 0 < count ⌝ }
     ensures { λ r. ⌜ r ≡ newellOf (cornerAt (now (file .entry)) first) count ⌝ }
 {
+    let start = corner(file, first);
     let mut n = Vec3::ZERO;
+    let mut a = start;
     let mut k: usize = 0;
-    while k < count {
-        n = newell_step(
-            n,
-            vertex(file, first + k),
-            vertex(file, first + next(count, k)),
-        );
+    while k + 1 < count {
         k += 1;
+        let b = corner(file, first + k);
+        n = newell_step(n, a, b);
+        a = b;
     }
-    n
+    newell_step(n, a, start)
 }
 
 // The corners, added.
 fn corner_sum(file: &[u8], first: usize, count: usize) -> Vec3
-    requires { ⌜ 24 * (first + count) ≤ length (now file) ⌝ }
+    requires { ⌜ Corners (now file) first count ⌝ }
     ensures { λ r. ⌜ r ≡ cornersTo (cornerAt (now (file .entry)) first) count ⌝ }
 {
     let mut sum = Vec3::ZERO;
     let mut k: usize = 0;
     while k < count {
-        sum = sum.add(vertex(file, first + k));
+        sum = sum.add(corner(file, first + k));
         k += 1;
     }
     sum
@@ -70,16 +69,21 @@ fn corner_sum(file: &[u8], first: usize, count: usize) -> Vec3
 
 // Whether `Polygon::new` would refuse the polygon (refusal 8).
 pub fn is_flat(file: &[u8], first: usize, count: usize) -> bool
-    requires { ⌜ 24 * (first + count) ≤ length (now file) ⌝ }
+    requires { ⌜ Corners (now file) first count ⌝ ∗ ⌜ 0 < count ⌝ }
     ensures { λ r. ⌜ r ≡ isFlat (cornerAt (now (file .entry)) first) count ⌝ }
 {
-    newell(file, first, count).length() < 1e-14
+    let n = newell(file, first, count);
+    // The root of such a square is 1e-9 at least, so that most polygons need no root here.
+    if 1e-18 <= n.length_sq() {
+        return false;
+    }
+    n.length() < 1e-14
 }
 
 impl Plane {
     // The plane of a polygon that is not flat. Its centroid is divided by the number of corners.
     pub fn new(file: &[u8], first: usize, count: usize) -> Plane
-        requires { ⌜ 24 * (first + count) ≤ length (now file) ⌝ ∗ ⌜ count ≤ 64 ⌝ }
+        requires { ⌜ Corners (now file) first count ⌝ ∗ ⌜ 0 < count ⌝ ∗ ⌜ count ≤ 64 ⌝ }
         ensures { λ r. ⌜ r ≡ planeOf (cornerAt (now (file .entry)) first) count ⌝ }
     {
         let n = newell(file, first, count);
@@ -94,7 +98,7 @@ impl Plane {
 
 // dfm.rs's own centroid, multiplied by one over the number of corners.
 pub fn centroid(file: &[u8], first: usize, count: usize) -> Vec3
-    requires { ⌜ 24 * (first + count) ≤ length (now file) ⌝ ∗ ⌜ count ≤ 64 ⌝ }
+    requires { ⌜ Corners (now file) first count ⌝ ∗ ⌜ count ≤ 64 ⌝ }
     ensures { λ r. ⌜ r ≡ centroidOf (cornerAt (now (file .entry)) first) count ⌝ }
 {
     corner_sum(file, first, count).mul(1.0 / count as f64)
@@ -102,18 +106,18 @@ pub fn centroid(file: &[u8], first: usize, count: usize) -> Vec3
 
 // The triangle of corners 0, k + 1 and k + 2.
 fn triangle_area(file: &[u8], first: usize, k: usize) -> f64
-    requires { ⌜ 24 * (first + k + 3) ≤ length (now file) ⌝ }
+    requires { ⌜ Corners (now file) first (k + 3) ⌝ }
     ensures { λ r. ⌜ r ≡ triangleArea (cornerAt (now (file .entry)) first) k ⌝ }
 {
-    let origin = vertex(file, first);
-    let a = vertex(file, first + (k + 1)).sub(origin);
-    let b = vertex(file, first + (k + 2)).sub(origin);
+    let origin = corner(file, first);
+    let a = corner(file, first + (k + 1)).sub(origin);
+    let b = corner(file, first + (k + 2)).sub(origin);
     a.cross(b).length() * 0.5
 }
 
 // The area, by the triangles of a fan.
 pub fn poly_area(file: &[u8], first: usize, count: usize) -> f64
-    requires { ⌜ 24 * (first + count) ≤ length (now file) ⌝ ∗ ⌜ 3 ≤ count ⌝ }
+    requires { ⌜ Corners (now file) first count ⌝ ∗ ⌜ 3 ≤ count ⌝ }
     ensures { λ r. ⌜ r ≡ areaOf (cornerAt (now (file .entry)) first) count ⌝ }
 {
     let mut area = 0.0;

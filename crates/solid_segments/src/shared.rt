@@ -11,11 +11,11 @@ ghost use Rattle.solid_segments.specs.Sides.{nextOf, SharedSegments};
 ghost use Rattle.solid_segments.specs.Work.{sideCells, startOf, RunAt, sideRow, Lent, PlacedBelow, OwnsMore, OwnsRun};
 use crate::key::key_cell;
 use crate::pack::pack_sides;
+use file_part::corner::corner;
 use file_part::read::entry_at;
 use file_part::read::first_vertex;
 use file_part::read::polygon_count;
 use file_part::read::run_length;
-use file_part::read::vertex;
 use file_part::read::vertex_count;
 use solid_keys::chains::pair_sides;
 
@@ -55,7 +55,7 @@ fn put_side(file: &[u8], mem: &mut [u32], s: usize, to: usize)
     requires { ⌜ s * 8 + 8 ≤ length (now mem) ⌝ ∗ ⌜ to < 16384 ⌝ }
     ensures { λ _. ⌜ now (mem .exit) ≡ sideRow (vecAt (now (file .entry)) (24 * s)) s to (now (mem .entry)) ⌝ }
 {
-    let v = vertex(file, s);
+    let v = corner(file, s);
     let x = key_cell(v.x);
     let y = key_cell(v.y);
     let z = key_cell(v.z);

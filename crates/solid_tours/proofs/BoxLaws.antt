@@ -36,13 +36,13 @@ chosen-first a c h = rw (lt-ltb a c h)
 chosen-second : (a c : ℕ) → c ≤ a → c ≡ cond (ltb a c) a c
 chosen-second a c h = rw (le-ltb a c h)
 
-pub count-wanted : (m v : ℕ) → m / 32 + 1 < (7 * (v - m) + 1024) / 6 → m / 32 + 1 ≡ boxCount m v
+pub count-wanted : (m v : ℕ) → m / 16 + 1 < (7 * (v - m) + 1024) / 6 → m / 16 + 1 ≡ boxCount m v
 unfolding boxCount
-count-wanted m v h = chosen-first (m / 32 + 1) ((7 * (v - m) + 1024) / 6) h
+count-wanted m v h = chosen-first (m / 16 + 1) ((7 * (v - m) + 1024) / 6) h
 
-pub count-room : (m v : ℕ) → (7 * (v - m) + 1024) / 6 ≤ m / 32 + 1 → (7 * (v - m) + 1024) / 6 ≡ boxCount m v
+pub count-room : (m v : ℕ) → (7 * (v - m) + 1024) / 6 ≤ m / 16 + 1 → (7 * (v - m) + 1024) / 6 ≡ boxCount m v
 unfolding boxCount
-count-room m v h = chosen-second (m / 32 + 1) ((7 * (v - m) + 1024) / 6) h
+count-room m v h = chosen-second (m / 16 + 1) ((7 * (v - m) + 1024) / 6) h
 
 chosen-below : (a c : ℕ) → (cond (ltb a c) a c ≤ a) × (cond (ltb a c) a c ≤ c)
 chosen-below a c = go (ltb a c) refl
@@ -51,9 +51,9 @@ chosen-below a c = go (ltb a c) refl
     go true e = (omega arith, omega (arith, ltb-true a c e))
     go false e = (omega (arith, ltb-false a c e), omega arith)
 
-pub few-boxes : (m v : ℕ) → (boxCount m v ≤ m / 32 + 1) × (boxCount m v ≤ (7 * (v - m) + 1024) / 6)
+pub few-boxes : (m v : ℕ) → (boxCount m v ≤ m / 16 + 1) × (boxCount m v ≤ (7 * (v - m) + 1024) / 6)
 unfolding boxCount
-few-boxes m v = chosen-below (m / 32 + 1) ((7 * (v - m) + 1024) / 6)
+few-boxes m v = chosen-below (m / 16 + 1) ((7 * (v - m) + 1024) / 6)
 
 -- ---- a box around some edges
 module _ (at : Regions) (reals : List Float) (i : ℕ) where
@@ -77,7 +77,7 @@ module _ (s : List ℕ) (at : Regions) (words : List ℕ) where
   t = partOf s
 
   module _ (reals : List Float) {done boxes : ℕ} (o : OrderedTo s at words reals done boxes) (b : ℕ) (low : b < boxCount (itemCount t) (at .vertices)) where
-    pub box-first : 32 * b ≤ itemCount t
+    pub box-first : 16 * b ≤ itemCount t
     box-first = omega (arith, low, few-boxes (itemCount t) (at .vertices) .0)
 
     box-room : boxAt t at b + 6 ≤ at .reals
@@ -87,7 +87,7 @@ module _ (s : List ℕ) (at : Regions) (words : List ℕ) where
     box-inside = omega (arith, box-room, o .standing .reals-room)
 
   module _ (reals reals′ : List Float) (b : ℕ) (o : OrderedTo s at words reals (itemCount t) b) (low : b < boxCount (itemCount t) (at .vertices)) (e : ℕ) (r : Reach)
-      (run : RunEnd (32 * b) (itemCount t) e) (around : Around at reals (32 * b) e r) (put : reals′ ≡ putReach reals (boxAt t at b) r) where
+      (run : RunEnd (16 * b) (itemCount t) e) (around : Around at reals (16 * b) e r) (put : reals′ ≡ putReach reals (boxAt t at b) r) where
     only : Outside nan (boxAt t at b) (boxAt t at b + 6) reals reals′
     only = subst (Outside nan (boxAt t at b) (boxAt t at b + 6) reals) (sym put) (put-kept reals (boxAt t at b) r)
 
@@ -100,7 +100,7 @@ module _ (s : List ℕ) (at : Regions) (words : List ℕ) where
     here : reachAt reals′ (boxAt t at b) ≡ r
     here = ap (λ (l : List Float). reachAt l (boxAt t at b)) put ∙ put-same reals (boxAt t at b) r (box-inside reals o b low)
 
-    boxed : (c j : ℕ) → c < b + 1 → 32 * c ≤ j → j < 32 * c + 32 → j < itemCount t → Holds (reachAt reals′ (boxAt t at c)) (segmentAt reals′ (packedAt at j))
+    boxed : (c j : ℕ) → c < b + 1 → 16 * c ≤ j → j < 16 * c + 16 → j < itemCount t → Holds (reachAt reals′ (boxAt t at c)) (segmentAt reals′ (packedAt at j))
     boxed c j l from to inside = go (lt-or-ge c b)
       where
         go : (c < b) ⊎ (b ≤ c) → Holds (reachAt reals′ (boxAt t at c)) (segmentAt reals′ (packedAt at j))
@@ -158,8 +158,8 @@ spared-is reals count b place p x h = go (ltb b count) (lt (gapSquare p (reachAt
 
 -- the edges of a box that is no nearer
 pub run-spared : (s : List ℕ) (at : Regions) (words : List ℕ) (reals : List Float) → EdgesOrdered s at words reals → (count b place i e items : ℕ) (p : Vec3) (x : Float) →
-    count ≡ boxCount (itemCount (partOf s)) (at .vertices) → items ≡ itemCount (partOf s) → b ≡ i / 32 → place ≡ at .free + 7 * items + 6 * b → i ≤ e → e ≤ itemCount (partOf s) →
-    e ≤ i / 32 * 32 + 32 → isSpared reals count b p x place ≡ true → x ≡ leastSquare (partOf s) p x (sidesAt (partOf s) at words i e)
+    count ≡ boxCount (itemCount (partOf s)) (at .vertices) → items ≡ itemCount (partOf s) → b ≡ i / 16 → place ≡ at .free + 7 * items + 6 * b → i ≤ e → e ≤ itemCount (partOf s) →
+    e ≤ i / 16 * 16 + 16 → isSpared reals count b p x place ≡ true → x ≡ leastSquare (partOf s) p x (sidesAt (partOf s) at words i e)
 run-spared s at words reals o count b place i e items p x ec ei eb ep l h short spared =
     least-spared (partOf s) p at words x i e l (omega (arith, h, order-long s at words reals o)) each
   where
@@ -202,10 +202,10 @@ module _ (a m e : ℕ) (run : RunEnd a m e) where
 pub run-some : (a m k e : ℕ) → m ≡ k → a ≤ k → RunEnd a m e → a ≤ e
 run-some a m k e h l run = run-all a m e run a (omega (arith, h, l)) (omega arith)
 
-pub run-on : (j end e : ℕ) → j < end → RunEnd (j / 32 * 32) end e → j ≤ e
+pub run-on : (j end e : ℕ) → j < end → RunEnd (j / 16 * 16) end e → j ≤ e
 run-on j end e l run = let more = run .all j (omega arith) l in omega (arith, more)
 
-pub run-less : (j end e : ℕ) → j < end → RunEnd (j / 32 * 32) end e → end - e < end - j
+pub run-less : (j end e : ℕ) → j < end → RunEnd (j / 16 * 16) end e → end - e < end - j
 run-less j end e l run = let more = run .all j (omega arith) l in omega (arith, more, l)
 
 pub box-there : (s : List ℕ) (at : Regions) (words : List ℕ) (reals : List Float) → EdgesOrdered s at words reals → (count b items : ℕ) →

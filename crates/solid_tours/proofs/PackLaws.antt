@@ -71,7 +71,7 @@ module _ (s : List ℕ) (at : Regions) (words : List ℕ) where
   -- changes of the packed cells leave the order; more or fewer places may be packed then
   pub ordered-still : (reals reals′ : List Float) (done next boxes put : ℕ) → OrderedTo s at words reals done boxes → Outside nan (at .free) (at .reals) reals reals′ →
       ((j : ℕ) → j < next → segmentAt reals′ (packedAt at j) ≡ sideSegment (partOf s) (itemSide (partOf s) (getD (edgeOrder at words) j 0))) →
-      ((b j : ℕ) → b < put → 32 * b ≤ j → j < 32 * b + 32 → j < itemCount (partOf s) → Holds (reachAt reals′ (boxAt (partOf s) at b)) (segmentAt reals′ (packedAt at j))) →
+      ((b j : ℕ) → b < put → 16 * b ≤ j → j < 16 * b + 16 → j < itemCount (partOf s) → Holds (reachAt reals′ (boxAt (partOf s) at b)) (segmentAt reals′ (packedAt at j))) →
       OrderedTo s at words reals′ next put
   ordered-still reals reals′ done next boxes put o r packed boxed =
       let laid = o .standing .placed .laid in

@@ -74,11 +74,11 @@ pub record SortedPut (s : List ℕ) (at : Regions) (words words′ : List ℕ) (
 abbrev pub Around : Regions → List Float → ℕ → ℕ → Reach → Type 0
 Around at reals i e r = (j : ℕ) → i ≤ j → j < e → Holds r (segmentAt reals (packedAt at j))
 
--- r is the lesser of a + 32 and e
+-- r is the lesser of a + 16 and e
 pub record RunEnd (a e r : ℕ) : Type 0 where
-  pub short : r ≤ a + 32
+  pub short : r ≤ a + 16
   pub inside : r ≤ e
-  pub all : (j : ℕ) → j < a + 32 → j < e → j < r
+  pub all : (j : ℕ) → j < a + 16 → j < e → j < r
 
 -- box b of `count` boxes is no nearer to p than the square x
 unfoldable pub isSpared : List Float → ℕ → ℕ → Vec3 → Float → ℕ → Bool

@@ -1,4 +1,4 @@
-// Boxes around the packed edges, 32 in each: a box that is too far from a point spares the distances from its edges.
+// Boxes around the packed edges, 16 in each: a box that is too far from a point spares the distances from its edges.
 ghost use mathlib.Core.Path.{_≡_};
 ghost use Prim.Native.Nat.{_+_, _*_, _≤_, _<_};
 ghost use lib.ListN.{length};
@@ -18,7 +18,7 @@ pub fn box_count(m: usize, v: usize) -> usize
     requires { ⌜ m ≤ v ⌝ ∗ ⌜ v ≤ 16384 ⌝ }
     ensures { λ r. ⌜ r ≡ boxCount m v ⌝ }
 {
-    let wanted = m / 32 + 1;
+    let wanted = m / 16 + 1;
     let room = (7 * (v - m) + 1024) / 6;
     if wanted < room {
         return wanted;
@@ -40,13 +40,13 @@ fn box_of(reals: &[f64], at: Regions, i: usize, e: usize) -> Reach
     r
 }
 
-// The lesser of a + 32 and e.
+// The lesser of a + 16 and e.
 pub fn run_end(a: usize, e: usize) -> usize
     requires { ⌜ a ≤ 16384 ⌝ }
     ensures { λ r. ⌜ RunEnd a e r ⌝ }
 {
-    if a + 32 < e {
-        return a + 32;
+    if a + 16 < e {
+        return a + 16;
     }
     e
 }
@@ -56,7 +56,7 @@ fn put_box(file: &[u8], words: &[u32], reals: &mut [f64], at: Regions, m: usize,
     requires { ⌜ OrderedTo (now file) at (now words) (now reals) (itemCount (partOf (now file))) b ⌝ ∗ ⌜ m ≡ itemCount (partOf (now file)) ⌝ ∗ ⌜ b < boxCount m (at .vertices) ⌝ }
     ensures { λ r. ⌜ BoxesPut (now (file .entry)) at (now (words .entry)) (now (reals .entry)) (now (reals .exit)) (b + 1) ⌝ }
 {
-    let start = 32 * b;
+    let start = 16 * b;
     let end = run_end(start, m);
     let r = box_of(&reals[..], at, start, end);
     put_reach(reals, at.free + 7 * m + 6 * b, r);

@@ -145,11 +145,11 @@ fn run_square(
     least: f64,
 ) -> f64
     requires { ⌜ EdgesOrdered (now file) (edges .at) (now words) (now reals) ⌝ ∗ ⌜ Counted (partOf (now file)) edges ⌝ ∗ ⌜ count ≡ boxCount (itemCount (partOf (now file))) (edges .at .vertices) ⌝ }
-    requires { ⌜ places .start ≤ places .end ⌝ ∗ ⌜ places .end ≤ itemCount (partOf (now file)) ⌝ ∗ ⌜ places .end ≤ places .start / 32 * 32 + 32 ⌝ }
+    requires { ⌜ places .start ≤ places .end ⌝ ∗ ⌜ places .end ≤ itemCount (partOf (now file)) ⌝ ∗ ⌜ places .end ≤ places .start / 16 * 16 + 16 ⌝ }
     ensures { λ r. ⌜ r ≡ leastSquare (partOf (now (file .entry))) p least (sidesAt (partOf (now (file .entry))) (edges .at) (now (words .entry)) (places .start) (places .end)) ⌝ }
 {
     let at = edges.at;
-    let b = places.start / 32;
+    let b = places.start / 16;
     let place = at.free + 7 * edges.items + 6 * b;
     if is_spared(reals, count, b, place, p, least) {
         return least;
@@ -176,7 +176,7 @@ fn boxed_square(
     let mut best = least;
     let mut j = places.start;
     while j < end {
-        let stop = run_end(j / 32 * 32, end);
+        let stop = run_end(j / 16 * 16, end);
         let run = Places {
             start: j,
             end: stop,

@@ -1,4 +1,4 @@
--- Coordinates that are no NaN, and the test of a direction that runs along a plane, in the words of the code.
+-- The test of a direction that runs along a plane, in the words of the code.
 use mathlib.Core.Path.{_≡_, refl, sym, ap, _∙_, subst}
 use mathlib.Core.Bool.{Bool, true, false, not, _&&_}
 use mathlib.Core.List.{List}
@@ -15,12 +15,6 @@ use Rattle.num_real.proofs.BitsLaws.{finite→no-nan}
 use Rattle.file_field.specs.Field.{u64At, f64At}
 use Rattle.math.specs.Vector.{zero}
 use Rattle.wall_ray.specs.Strike.{e-12}
-
--- ---- a coordinate: the pattern of a bounded number is no NaN's
-pub no-nan-bits : (s : List ℕ) (at b c : ℕ) → b ≡ u64At s at → Within (f64At s at) c → T (not (nanBits binary64 b))
-unfolding f64At
-no-nan-bits s at b c e w =
-    subst (λ (t : Bool). T (not t)) (sym (nanBits-is binary64 b ∙ ap (λ (k : ℕ). isNan (ofBits binary64 k)) e)) (finite→no-nan (f64At s at) (w .is-finite))
 
 -- ---- the test
 -- what is more than some number is more than 0

@@ -16,15 +16,11 @@ use Rattle.math.specs.Vector.{dotOf}
 use Rattle.math.specs.Vector as vector
 use Rattle.file_part.specs.Layout.{vertexCount, polygonCount, entryAt}
 use Rattle.file_part.specs.Part.{Part, firstAt, countAt, polygonAt, partOf}
-use Rattle.file_ok.specs.Work.{Readable}
-use Rattle.file_ok.proofs.ReadableLaws.{readable-vertex, readable-index}
 use Rattle.solid_polygon.specs.declared.polygon.Plane.{Plane}
 use Rattle.solid_polygon.specs.Work.{cornerAt}
 use Rattle.solid_faces.specs.Faces.{polygonCorner, polygonPlane}
-use Rattle.solid_faces.proofs.BodyLaws.{run-room}
 use Rattle.solid_boxes.specs.Bounds.{hullOf, widened, e-6, padded, ownBox}
 use Rattle.wall_ray.specs.declared.strike.Ray.{Ray}
-use Rattle.wall_ray.specs.Work.{Corners}
 use Rattle.wall_ray.specs.Slab.{slabOf, reachedIn}
 use Rattle.wall_ray.specs.Strike.{e-12, isParallel, timeOf, pointOf, isWithin, hitTime, isInside, crosses, inverseOf, ownSpan, struck}
 use Rattle.wall_ray.proofs.SlabLaws.{reached-after}
@@ -82,18 +78,6 @@ side-fails c n m q k b l e f = sym (all-fails n (isWithin c n m q) k l (sym e �
 pub sides-all : (c : ℕ → Vec3) (n : ℕ) (m q : Vec3) (k : ℕ) → k ≤ n → n ≤ k → allBelow k (isWithin c n m q) ≡ true →
     true ≡ allBelow n (isWithin c n m q)
 sides-all c n m q k a z all = sym (subst (λ (j : ℕ). allBelow j (isWithin c n m q) ≡ true) (le-antisymm a z) all)
-
--- a polygon's corners, by its run in the file
-pub run-corners : (s : List ℕ) (v m p at first n : ℕ) → Readable s → v ≡ vertexCount s → m ≡ polygonCount s → p < m → at ≡ entryAt v p →
-    first ≡ firstAt s at → n ≡ countAt s at → Corners s first n
-run-corners s v m p at first n h a b l i e q =
-    let place : at ≡ entryAt (vertexCount s) p = i ∙ ap (λ (k : ℕ). entryAt k p) a in
-    let f : first ≡ firstAt s (entryAt (vertexCount s) p) = rw place at e in
-    let c : n ≡ countAt s (entryAt (vertexCount s) p) = rw place at q in
-    record {
-      inside = run-room s v m p first n h a b l (rw i at e) (rw i at q) .inside;
-      each = λ k low. readable-vertex s h (first + k) (omega (arith, f, readable-index s h p (omega (arith, b, l)) k (omega (arith, c, low))));
-    }
 
 -- ---- polygon p of a file, with its plane x, the product d and the time u; `more` is a test of the time alone
 module _ (s : List ℕ) (r : Ray) (p : ℕ) (x : Plane) (d u : Float) (more : Float → Bool) (b : Bool)

@@ -5,16 +5,8 @@ use Prim.Native.Nat.{ℕ, _+_, _*_, _≤_, _<_}
 use lib.ListN.{length}
 use lib.Dec.{ltb}
 use lib.Ieee.{Float, lt, eq}
-use Rattle.math.specs.Size.{VecWithin}
-use Rattle.file_field.specs.Field.{vecAt}
 use Rattle.wall_ray.specs.declared.strike.Hit.{Hit}
 use Rattle.wall_ray.specs.declared.strike.Hit.the-variants.{At, Nothing}
-
--- ---- what is known of the corners of a polygon in a file that is not turned back
--- the n vertices from `first` on lie inside the file, and their "coordinates .. within ±1e4"
-pub record Corners (s : List ℕ) (first n : ℕ) : Type 0 where
-  pub inside : 24 * (first + n) ≤ length s
-  pub each : (k : ℕ) → k < n → VecWithin (vecAt s (24 * (first + k))) 10000
 
 -- ---- trying polygons in any order
 -- p at t comes before what is kept: sooner, or as soon and of a lower number

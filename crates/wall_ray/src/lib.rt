@@ -1,6 +1,5 @@
 // Rays through a part, by trying every polygon.
 pub mod attempt;
-pub mod corner;
 pub mod scan;
 pub mod slab;
 pub mod strike;

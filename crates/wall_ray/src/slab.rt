@@ -1,8 +1,7 @@
 // The stretch of a ray within a box: the slab formula of dfm.rs's `Bvh::raycast`.
 ghost use mathlib.Core.Path.{_≡_};
-ghost use Prim.Native.Nat.{_+_, _*_, _≤_, _<_};
-ghost use lib.ListN.{length};
-ghost use Rattle.solid_polygon.specs.Work.{cornerAt};
+ghost use Prim.Native.Nat.{_<_};
+ghost use Rattle.solid_polygon.specs.Work.{cornerAt, Corners};
 ghost use Rattle.solid_boxes.specs.Bounds.{hullOf, widened, e-6, padded};
 ghost use Rattle.wall_ray.specs.Slab.{meets, moved, slabOf, reachedIn};
 ghost use Rattle.wall_ray.specs.Strike.{inverseOf};
@@ -83,7 +82,7 @@ fn slab(b: Bounds, o: Vec3, inv: Vec3) -> Span
 
 // Whether the ray from o with the inverse direction inv passes the own box of the n corners from vertex `first` on, and meets t no sooner.
 pub fn is_run_reached(file: &[u8], first: usize, n: usize, o: Vec3, inv: Vec3, t: f64) -> bool
-    requires { ⌜ 24 * (first + n) ≤ length (now file) ⌝ ∗ ⌜ 0 < n ⌝ }
+    requires { ⌜ Corners (now file) first n ⌝ ∗ ⌜ 0 < n ⌝ }
     ensures { λ r. ⌜ r ≡ reachedIn (slabOf (padded (widened e-6 (hullOf (cornerAt (now (file .entry)) first) n))) o inv) t ⌝ }
 {
     slab(run_box(file, first, n), o, inv).is_reached(t)

@@ -21,8 +21,8 @@ vertex-count-requires c κs = checked-long _ (c .before .pre)
 loop-holds : tie.Need-loop-holds Inv-loop μ-loop
 loop-holds c = (omega arith, heights-none _ _)
 
-vertex-requires : tie.Need-vertex-requires Inv-loop μ-loop
-vertex-requires c κs = vertex-room _ _ _ (c .before .before .before .before .pre) (c .before .before .vertex-count .ensures) (c .loop-test .taken)
+corner-requires : tie.Need-corner-requires Inv-loop μ-loop
+corner-requires c κs = vertex-room _ _ _ (c .before .before .before .before .pre) (c .before .before .vertex-count .ensures) (c .loop-test .taken)
 
 add-i : tie.Need-add-i Inv-loop μ-loop
 add-i c = omega (arith, c .before .before .before .loop-test .taken, few-vertices _ _ (c .before .before .before .before .before .before .before .pre) (c .before .before .before .before .before .vertex-count .ensures))
@@ -31,7 +31,7 @@ loop-less : tie.Need-loop-less Inv-loop μ-loop
 loop-less c = omega (arith, c .before .before .before .loop-test .taken)
 
 loop-again : tie.Need-loop-again Inv-loop μ-loop
-loop-again c = (omega (arith, c .before .before .before .loop-test .taken), heights-more _ _ _ _ _ _ _ (c .before .before .before .before .loop .inv .1) (c .before .before .vertex .ensures) (c .before .dot .ensures) (c .reach .ensures))
+loop-again c = (omega (arith, c .before .before .before .loop-test .taken), heights-more _ _ _ _ _ _ _ (c .before .before .before .before .loop .inv .1) (c .before .before .corner .ensures) (c .before .dot .ensures) (c .reach .ensures))
 
 returns : tie.Need-returns Inv-loop μ-loop
 returns c = heights-all _ _ _ _ _ (c .before .before .vertex-count .ensures) (c .before .loop .inv .0) (c .loop-test .left) (c .before .loop .inv .1)
@@ -44,7 +44,7 @@ heights-spec =
     μ-loop
     vertex-count-requires
     loop-holds
-    vertex-requires
+    corner-requires
     (λ c κs. search needs)
     (λ c κs. search needs)
     add-i

@@ -69,9 +69,9 @@ sideSegment t s = segmentOf (t .vertex s) (t .vertex (toOf t s))
 abbrev pub packedAt : Regions → ℕ → ℕ
 packedAt at j = at .free + 7 * j
 
--- behind the m segments stand boxes of 32 of them each, as many boxes as there is room for among v sides
+-- behind the m segments stand boxes of 16 of them each, as many boxes as there is room for among v sides
 unfoldable pub boxCount : ℕ → ℕ → ℕ
-boxCount m v = cond (ltb (m / 32 + 1) ((7 * (v - m) + 1024) / 6)) (m / 32 + 1) ((7 * (v - m) + 1024) / 6)
+boxCount m v = cond (ltb (m / 16 + 1) ((7 * (v - m) + 1024) / 6)) (m / 16 + 1) ((7 * (v - m) + 1024) / 6)
 
 abbrev pub boxAt : Part → Regions → ℕ → ℕ
 boxAt t at b = at .free + 7 * itemCount t + 6 * b
@@ -86,8 +86,8 @@ pub record OrderedTo (s : List ℕ) (at : Regions) (words : List ℕ) (reals : L
   pub keyed : Keyed (edgeKeys at reals) (itemKey (partOf s)) (itemCount (partOf s)) (facesOf (partOf s) * facesOf (partOf s))
   pub grouped : Grouped (itemKey (partOf s)) (itemCount (partOf s)) (facesOf (partOf s) * facesOf (partOf s)) (edgeOrder at words)
   pub packed : (j : ℕ) → j < k → segmentAt reals (packedAt at j) ≡ sideSegment (partOf s) (itemSide (partOf s) (getD (edgeOrder at words) j 0))
-  -- box b is around the edges at the places from 32b to before 32b + 32
-  pub boxed : (b j : ℕ) → b < n → 32 * b ≤ j → j < 32 * b + 32 → j < itemCount (partOf s) → Holds (reachAt reals (boxAt (partOf s) at b)) (segmentAt reals (packedAt at j))
+  -- box b is around the edges at the places from 16b to before 16b + 16
+  pub boxed : (b j : ℕ) → b < n → 16 * b ≤ j → j < 16 * b + 16 → j < itemCount (partOf s) → Holds (reachAt reals (boxAt (partOf s) at b)) (segmentAt reals (packedAt at j))
 
 abbrev pub EdgesSorted : List ℕ → Regions → List ℕ → List Float → Type 0
 EdgesSorted s at words reals = OrderedTo s at words reals 0 0

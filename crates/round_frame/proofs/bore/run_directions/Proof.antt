@@ -5,7 +5,7 @@ use mathlib.Core.List.{_++_}
 use native.Mathlib.Omega.{arith}
 use denote.Ref.{now}
 use Rattle.file_part.specs.Layout.{vertexCount}
-use Rattle.file_ok.proofs.ReadableLaws.{readable-counts, readable-vertex-room}
+use Rattle.file_ok.proofs.ReadableLaws.{readable-counts, readable-vertex, readable-vertex-room}
 use Rattle.solid_polygon.specs.Work.{cornerAt}
 use Rattle.round_hole.specs.Work.{directionsIn}
 use Rattle.round_frame.specs.Frame.{runDirections}
@@ -28,20 +28,22 @@ loop-holds c = (omega arith, run-none _ _ _ _ _)
 inside : (c : tie.In-loop Inv-loop μ-loop) → c .before .before .before .before .args .first + c .before .loop .k < vertexCount (now (c .before .before .before .before .args .file))
 inside c = omega (arith, c .loop-test .taken, c .before .before .before .before .pre .1 .0)
 
-add-vertex : tie.Need-add-vertex Inv-loop μ-loop
-add-vertex c = omega (arith, inside (c .before), readable-counts _ (c .before .before .before .before .before .pre .0) .0)
+add-corner : tie.Need-add-corner Inv-loop μ-loop
+add-corner c = omega (arith, inside (c .before), readable-counts _ (c .before .before .before .before .before .pre .0) .0)
 
-vertex-requires : tie.Need-vertex-requires Inv-loop μ-loop
-vertex-requires c κs = readable-vertex-room _ (c .before .before .before .before .before .pre .0) _ (inside (c .before))
+corner-requires : tie.Need-corner-requires Inv-loop μ-loop
+corner-requires c κs =
+    let readable = c .before .before .before .before .before .pre .0 in
+    (readable-vertex-room _ readable _ (inside (c .before)), readable-vertex _ readable _ (inside (c .before)))
 
 put-directions-requires : tie.Need-put-directions-requires Inv-loop μ-loop
 put-directions-requires c κs =
     let l = c .before .before .before .loop .inv .1 in
-    (omega (arith, c .before .before .loop-test .taken, l .few, l .long, c .before .before .before .before .before .before .pre .1 .1 .0), (c .before .before .before .before .before .before .pre .1 .1 .1, corner-within _ _ _ (c .before .before .before .before .before .before .pre .0) (inside (c .before .before)) (c .vertex .ensures)))
+    (omega (arith, c .before .before .loop-test .taken, l .few, l .long, c .before .before .before .before .before .before .pre .1 .1 .0), (c .before .before .before .before .before .before .pre .1 .1 .1, corner-within _ _ _ (c .before .before .before .before .before .before .pre .0) (inside (c .before .before)) (c .corner .ensures)))
 
 loop-again : tie.Need-loop-again Inv-loop μ-loop
 loop-again c =
-    (omega (arith, c .before .before .before .before .before .loop-test .taken), run-more _ _ _ _ _ _ _ _ _ _ _ (c .before .before .before .vertex .ensures) (c .before .before .before .before .before .before .loop .inv .1) (c .before .before .put-directions .ensures))
+    (omega (arith, c .before .before .before .before .before .loop-test .taken), run-more _ _ _ _ _ _ _ _ _ _ _ (c .before .before .before .corner .ensures) (c .before .before .before .before .before .before .loop .inv .1) (c .before .before .put-directions .ensures))
 
 same-length : tie.Need-same-length Inv-loop μ-loop
 same-length c = c .before .loop .inv .1 .long
@@ -56,8 +58,8 @@ run-directions-spec =
     Inv-loop
     μ-loop
     loop-holds
-    add-vertex
-    vertex-requires
+    add-corner
+    corner-requires
     put-directions-requires
     (λ c. search needs)
     (λ c. search needs)

@@ -1,5 +1,5 @@
 -- `round_frame::extent::polygon_extent` meets its contract.
-use Rattle.round_frame.proofs.RunLaws.{entry-of, entry-inside, run-of, run-extent}
+use Rattle.round_frame.proofs.RunLaws.{entry-of, entry-inside, corners-of, run-extent}
 use Rattle.round_frame.proofs.extent.polygon_extent.Statement.{statement}
 use Rattle.round_frame.proofs.extent.polygon_extent.Tie as tie
 
@@ -13,7 +13,7 @@ run-length-requires : tie.Need-run-length-requires
 run-length-requires c κs = entry-inside _ _ _ _ (c .before .before .before .pre .0) (c .before .before .before .pre .1 .0) (c .before .before .before .pre .1 .1) (c .before .entry-at .ensures)
 
 run-extent-requires : tie.Need-run-extent-requires
-run-extent-requires c κs = run-of _ _ _ _ _ _ (c .before .before .before .before .pre .0) (c .before .before .before .before .pre .1 .0) (c .before .before .before .before .pre .1 .1) (c .before .before .entry-at .ensures) (c .before .first-vertex .ensures) (c .run-length .ensures .0) .inside
+run-extent-requires c κs = corners-of _ _ _ _ _ _ (c .before .before .before .before .pre .0) (c .before .before .before .before .pre .1 .0) (c .before .before .before .before .pre .1 .1) (c .before .before .entry-at .ensures) (c .before .first-vertex .ensures) (c .run-length .ensures .0)
 
 returns : tie.Need-returns
 returns c = run-extent _ _ _ _ _ _ (c .before .before .before .before .before .pre .0) (c .before .before .before .before .before .pre .1 .0) (c .before .before .before .before .before .pre .1 .1) (c .before .before .before .entry-at .ensures) (c .before .before .first-vertex .ensures) (c .before .run-length .ensures .0) _ _ _ (c .run-extent .ensures)

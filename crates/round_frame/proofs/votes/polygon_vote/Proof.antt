@@ -3,7 +3,7 @@ use borrow.Author.Needs.{needs}
 use mathlib.Core.Path.{ap, _∙_}
 use native.Mathlib.Omega.{arith}
 use Rattle.solid_polygon.specs.declared.polygon.Plane.{Plane}
-use Rattle.round_frame.proofs.RunLaws.{entry-of, entry-inside, run-of, run-centroid, run-vote}
+use Rattle.round_frame.proofs.RunLaws.{entry-of, entry-inside, run-of, corners-of, run-centroid, run-vote}
 use Rattle.round_frame.proofs.votes.polygon_vote.Statement.{statement}
 use Rattle.round_frame.proofs.votes.polygon_vote.Tie as tie
 
@@ -17,7 +17,7 @@ run-length-requires : tie.Need-run-length-requires
 run-length-requires c κs = entry-inside _ _ _ _ (c .before .before .before .before .before .pre .0) (c .before .before .before .before .before .pre .1 .0) (c .before .before .before .before .before .pre .1 .1 .0) (c .before .entry-at .ensures)
 
 centroid-requires : tie.Need-centroid-requires
-centroid-requires c κs = let run = run-of _ _ _ _ _ _ (c .before .before .before .before .before .before .pre .0) (c .before .before .before .before .before .before .pre .1 .0) (c .before .before .before .before .before .before .pre .1 .1 .0) (c .before .before .entry-at .ensures) (c .before .first-vertex .ensures) (c .run-length .ensures .0) in (run .inside, run .most)
+centroid-requires c κs = let run = run-of _ _ _ _ _ _ (c .before .before .before .before .before .before .pre .0) (c .before .before .before .before .before .before .pre .1 .0) (c .before .before .before .before .before .before .pre .1 .1 .0) (c .before .before .entry-at .ensures) (c .before .first-vertex .ensures) (c .run-length .ensures .0) in (corners-of _ _ _ _ _ _ (c .before .before .before .before .before .before .pre .0) (c .before .before .before .before .before .before .pre .1 .0) (c .before .before .before .before .before .before .pre .1 .1 .0) (c .before .before .entry-at .ensures) (c .before .first-vertex .ensures) (c .run-length .ensures .0), run .most)
 
 normal-at-requires : tie.Need-normal-at-requires
 normal-at-requires c κs = omega (arith, c .before .before .before .before .before .before .before .pre .1 .1 .0, c .before .before .before .before .before .before .before .pre .1 .1 .1 .0 .long)

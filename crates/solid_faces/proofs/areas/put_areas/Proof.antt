@@ -7,8 +7,9 @@ use lib.ListN.{length, length-set}
 use denote.Ref.{now}
 use Rattle.file_part.specs.Part.{partOf}
 use Rattle.file_ok.specs.Work.{Readable}
+use Rattle.solid_polygon.specs.Work.{Corners}
 use Rattle.solid_faces.specs.Kept.{KeptAreas}
-use Rattle.solid_faces.proofs.BodyLaws.{readable-long, EntryRoom, entry-room, RunRoom, run-room, run-area, checked-readable}
+use Rattle.solid_faces.proofs.BodyLaws.{readable-long, EntryRoom, entry-room, RunRoom, run-room, run-corners, run-area, checked-readable}
 use Rattle.solid_faces.proofs.KeptLaws.{areas-none, areas-more, areas-all}
 use Rattle.solid_faces.proofs.areas.put_areas.Statement.{statement}
 use Rattle.solid_faces.proofs.areas.put_areas.Tie as tie
@@ -40,6 +41,14 @@ run c =
     run-room _ _ _ _ _ _ (readable i) (i .before .before .before .vertex-count .ensures) (i .before .before .polygon-count .ensures) (i .loop-test .taken)
     (rw place at (c .before .first-vertex .ensures)) (rw place at (c .run-length .ensures .0))
 
+-- and its corners
+corners : (c : tie.After-run-length Inv-loop μ-loop) →
+    Corners (now (start (c .before .before .before) .args .file)) (c .before .first-vertex .result) (c .run-length .result)
+corners c =
+    let i = c .before .before .before in
+    run-corners _ _ _ _ _ _ _ (readable i) (i .before .before .before .vertex-count .ensures) (i .before .before .polygon-count .ensures) (i .loop-test .taken)
+    (c .before .before .entry-at .ensures) (c .before .first-vertex .ensures) (c .run-length .ensures .0)
+
 -- the polygon's area has its place
 room : (c : tie.In-loop Inv-loop μ-loop) → c .before .loop .p < length (c .before .loop .areas)
 room c = omega (arith, c .loop-test .taken, c .before .before .polygon-count .ensures, start c .pre .1, c .before .loop .inv .1)
@@ -63,7 +72,7 @@ run-length-requires : tie.Need-run-length-requires Inv-loop μ-loop
 run-length-requires c κs = rw (c .before .entry-at .ensures) (entry (c .before .before) .inside)
 
 poly-area-requires : tie.Need-poly-area-requires Inv-loop μ-loop
-poly-area-requires c κs = (run c .inside, run c .least)
+poly-area-requires c κs = (corners c, run c .least)
 
 mul-areas : tie.Need-mul-areas Inv-loop μ-loop
 mul-areas c = omega (arith, room (c .before .before .before .before))

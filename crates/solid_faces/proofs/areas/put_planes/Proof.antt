@@ -7,8 +7,9 @@ use lib.ListN.{length}
 use denote.Ref.{now}
 use Rattle.file_part.specs.Part.{partOf}
 use Rattle.file_ok.specs.Work.{Readable}
+use Rattle.solid_polygon.specs.Work.{Corners}
 use Rattle.solid_faces.specs.Kept.{KeptPlanes}
-use Rattle.solid_faces.proofs.BodyLaws.{readable-long, EntryRoom, entry-room, RunRoom, run-room, run-plane, checked-readable}
+use Rattle.solid_faces.proofs.BodyLaws.{readable-long, EntryRoom, entry-room, RunRoom, run-room, run-corners, run-plane, checked-readable}
 use Rattle.solid_faces.proofs.KeptLaws.{planes-none, planes-more, planes-all}
 use Rattle.solid_faces.proofs.areas.put_planes.Statement.{statement}
 use Rattle.solid_faces.proofs.areas.put_planes.Tie as tie
@@ -40,6 +41,14 @@ run c =
     run-room _ _ _ _ _ _ (readable i) (i .before .before .before .vertex-count .ensures) (i .before .before .polygon-count .ensures) (i .loop-test .taken)
     (rw place at (c .before .first-vertex .ensures)) (rw place at (c .run-length .ensures .0))
 
+-- and its corners
+corners : (c : tie.After-run-length Inv-loop μ-loop) →
+    Corners (now (start (c .before .before .before .before) .args .file)) (c .before .first-vertex .result) (c .run-length .result)
+corners c =
+    let i = c .before .before .before .before in
+    run-corners _ _ _ _ _ _ _ (readable i) (i .before .before .before .vertex-count .ensures) (i .before .before .polygon-count .ensures) (i .loop-test .taken)
+    (c .before .before .before .entry-at .ensures) (c .before .first-vertex .ensures) (c .run-length .ensures .0)
+
 -- the polygon's plane has its place
 room : (c : tie.In-loop Inv-loop μ-loop) → 4 * c .before .loop .p + 4 ≤ length (c .before .loop .planes)
 room c = omega (arith, c .loop-test .taken, c .before .before .polygon-count .ensures, start c .pre .1, c .before .loop .inv .1)
@@ -63,7 +72,7 @@ run-length-requires : tie.Need-run-length-requires Inv-loop μ-loop
 run-length-requires c κs = rw (c .before .before .entry-at .ensures) (entry (c .before .before .before) .inside)
 
 new-requires : tie.Need-new-requires Inv-loop μ-loop
-new-requires c κs = (run c .inside, run c .most)
+new-requires c κs = (corners c, (omega (arith, run c .least), run c .most))
 
 put-plane-requires : tie.Need-put-plane-requires Inv-loop μ-loop
 put-plane-requires c κs = room (c .before .before .before .before .before)

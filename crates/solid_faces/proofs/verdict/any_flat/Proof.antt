@@ -6,8 +6,9 @@ use native.Mathlib.Omega.{arith}
 use denote.Ref.{now}
 use Rattle.file_part.specs.Part.{partOf}
 use Rattle.file_ok.specs.Work.{Readable}
+use Rattle.solid_polygon.specs.Work.{Corners}
 use Rattle.solid_faces.specs.Faces.{polygonFlat}
-use Rattle.solid_faces.proofs.BodyLaws.{readable-long, EntryRoom, entry-room, RunRoom, run-room, run-flat, polygons-are, NoneFlat, flat-none, flat-more, flat-found, flat-all}
+use Rattle.solid_faces.proofs.BodyLaws.{readable-long, EntryRoom, entry-room, RunRoom, run-room, run-corners, run-flat, polygons-are, NoneFlat, flat-none, flat-more, flat-found, flat-all}
 use Rattle.solid_faces.proofs.verdict.any_flat.Statement.{statement}
 use Rattle.solid_faces.proofs.verdict.any_flat.Tie as tie
 
@@ -38,6 +39,14 @@ run c =
     run-room _ _ _ _ _ _ (readable i) (i .before .before .before .vertex-count .ensures) (i .before .before .polygon-count .ensures) (i .loop-test .taken)
     (rw place at (c .before .first-vertex .ensures)) (rw place at (c .run-length .ensures .0))
 
+-- and its corners
+corners : (c : tie.After-run-length Inv-loop μ-loop) →
+    Corners (now (start (c .before .before .before) .args .file)) (c .before .first-vertex .result) (c .run-length .result)
+corners c =
+    let i = c .before .before .before in
+    run-corners _ _ _ _ _ _ _ (readable i) (i .before .before .before .vertex-count .ensures) (i .before .before .polygon-count .ensures) (i .loop-test .taken)
+    (c .before .before .entry-at .ensures) (c .before .first-vertex .ensures) (c .run-length .ensures .0)
+
 flat : (c : tie.After-is-flat Inv-loop μ-loop) →
     c .is-flat .result ≡ polygonFlat (partOf (now (start (c .before .before .before .before) .args .file))) (c .before .before .before .before .before .loop .p)
 flat c =
@@ -63,7 +72,7 @@ run-length-requires : tie.Need-run-length-requires Inv-loop μ-loop
 run-length-requires c κs = rw (c .before .entry-at .ensures) (entry (c .before .before) .inside)
 
 is-flat-requires : tie.Need-is-flat-requires Inv-loop μ-loop
-is-flat-requires c κs = run c .inside
+is-flat-requires c κs = (corners c, omega (arith, run c .least))
 
 returns : tie.Need-returns Inv-loop μ-loop
 returns c =

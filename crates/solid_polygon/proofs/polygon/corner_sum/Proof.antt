@@ -20,8 +20,11 @@ loop-holds : tie.Need-loop-holds Inv-loop μ-loop
 unfolding zeroVec
 loop-holds c = (omega arith, corners-none _ _)
 
+corner-requires : tie.Need-corner-requires Inv-loop μ-loop
+corner-requires c κs = let s = c .before .before .before .pre in (omega (arith, s .inside, c .loop-test .taken), s .each _ (c .loop-test .taken))
+
 loop-again : tie.Need-loop-again Inv-loop μ-loop
-loop-again c = (omega (arith, c .before .before .loop-test .taken), corners-more _ _ _ _ _ _ (c .before .before .before .loop .inv .1) (c .before .vertex .ensures) (c .add .ensures))
+loop-again c = (omega (arith, c .before .before .loop-test .taken), corners-more _ _ _ _ _ _ (c .before .before .before .loop .inv .1) (c .before .corner .ensures) (c .add .ensures))
 
 returns : tie.Need-returns Inv-loop μ-loop
 returns c = corners-all _ _ _ _ _ (c .before .loop .inv .0) (c .loop-test .left) (c .before .loop .inv .1)
@@ -34,7 +37,7 @@ corner-sum-spec =
     μ-loop
     loop-holds
     (λ c. search needs)
-    (λ c κs. search needs)
+    corner-requires
     (λ c κs. search needs)
     (λ c. search needs)
     (λ c. search needs)

@@ -5,7 +5,7 @@ use Prim.Native.Nat.{_-_, _≤_}
 use native.Mathlib.Omega.{arith}
 use Rattle.solid_polygon.specs.Polygon.{areaTo}
 use Rattle.solid_polygon.specs.Work.{cornerAt}
-use Rattle.solid_polygon.proofs.CornerLaws.{area-none, area-more, area-all}
+use Rattle.solid_polygon.proofs.CornerLaws.{fewer, area-none, area-more, area-all}
 use Rattle.solid_polygon.proofs.polygon.poly_area.Statement.{statement}
 use Rattle.solid_polygon.proofs.polygon.poly_area.Tie as tie
 
@@ -17,6 +17,9 @@ abbrev μ-loop : tie.MeasureT-loop
 
 loop-holds : tie.Need-loop-holds Inv-loop μ-loop
 loop-holds c = (omega arith, area-none _ _)
+
+triangle-area-requires : tie.Need-triangle-area-requires Inv-loop μ-loop
+triangle-area-requires c κs = fewer _ _ _ _ (omega (arith, c .loop-test .taken, c .before .before .before .pre .1)) (c .before .before .before .pre .0)
 
 loop-again : tie.Need-loop-again Inv-loop μ-loop
 loop-again c = (omega (arith, c .before .loop-test .taken), area-more _ _ _ _ _ (c .before .before .loop .inv .1) (c .triangle-area .ensures))
@@ -32,7 +35,7 @@ poly-area-spec =
     μ-loop
     loop-holds
     (λ c. search needs)
-    (λ c κs. search needs)
+    triangle-area-requires
     (λ c. search needs)
     (λ c. search needs)
     loop-again

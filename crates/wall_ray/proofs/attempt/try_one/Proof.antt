@@ -5,10 +5,11 @@ use mathlib.Core.Path.{_≡_, refl, _∙_}
 use native.Mathlib.Omega.{arith}
 use denote.Ref.{now}
 use Rattle.file_part.specs.Part.{partOf}
+use Rattle.solid_polygon.specs.Work.{Corners}
 use Rattle.solid_faces.specs.Faces.{polygonPlane}
-use Rattle.solid_faces.proofs.BodyLaws.{EntryRoom, entry-room, run-room, checked-readable}
+use Rattle.solid_faces.proofs.BodyLaws.{EntryRoom, entry-room, run-room, run-corners, checked-readable}
 use Rattle.wall_ray.specs.Work.{comes}
-use Rattle.wall_ray.proofs.StruckLaws.{run-corners, is-time, off-plane, outside, unreached, taken}
+use Rattle.wall_ray.proofs.StruckLaws.{is-time, off-plane, outside, unreached, taken}
 use Rattle.wall_ray.proofs.TryLaws.{try-leaves, try-takes}
 use Rattle.wall_ray.proofs.attempt.try_one.Statement.{statement}
 use Rattle.wall_ray.proofs.attempt.try_one.Tie as tie
@@ -50,11 +51,15 @@ first-vertex-requires c κs = rw (c .entry-at .ensures) (entry (c .before .befor
 run-length-requires : tie.Need-run-length-requires
 run-length-requires c κs = rw (c .before .entry-at .ensures) (entry (c .before .before .before .before) .inside)
 
-is-inside-requires : tie.Need-is-inside-requires
-is-inside-requires c κs =
-    let g = tests c in
+-- its corners
+corners : (d : tie.After-run-length) → Corners (now (start (tests d) .args .file)) (d .before .first-vertex .result) (d .run-length .result)
+corners d =
+    let g = tests d in
     run-corners _ _ _ _ _ _ _ (checked-readable _ (start g .pre .0)) (start g .pre .1 .1 .0) refl (start g .pre .1 .1 .1 .1)
-    (c .before .before .entry-at .ensures) (c .before .first-vertex .ensures) (c .run-length .ensures .0)
+    (d .before .before .entry-at .ensures) (d .before .first-vertex .ensures) (d .run-length .ensures .0)
+
+is-inside-requires : tie.Need-is-inside-requires
+is-inside-requires c κs = corners c
 
 returns-2 : tie.Need-returns-2
 returns-2 c =
@@ -71,7 +76,7 @@ is-run-reached-requires c κs =
     let g = tests d in
     let r = run-room _ _ _ _ _ _ (checked-readable _ (start g .pre .0)) (start g .pre .1 .1 .0) refl (start g .pre .1 .1 .1 .1)
     (rw (d .before .before .entry-at .ensures) at (d .before .first-vertex .ensures)) (rw (d .before .before .entry-at .ensures) at (d .run-length .ensures .0)) in
-    (r .inside, omega (arith, r .least))
+    (corners d, omega (arith, r .least))
 
 returns-3 : tie.Need-returns-3
 returns-3 c =

@@ -12,11 +12,11 @@ use Rattle.file_part.specs.Part.{partOf}
 use Rattle.file_ok.specs.Work.{Readable}
 use Rattle.solid_polygon.specs.Work.{cornerAt}
 use Rattle.solid_faces.specs.Faces.{polygonPlane}
-use Rattle.solid_faces.proofs.BodyLaws.{readable-long, EntryRoom, entry-room, run-room, polygons-are, checked-readable}
-use Rattle.wall_ray.specs.Work.{Corners}
+use Rattle.solid_faces.proofs.BodyLaws.{readable-long, EntryRoom, entry-room, run-room, run-corners, polygons-are, checked-readable}
+use Rattle.solid_polygon.specs.Work.{Corners}
 use Rattle.wall_ray.specs.Strike.{isWithin}
 use Rattle.wall_ray.specs.Nearest.{improves}
-use Rattle.wall_ray.proofs.StruckLaws.{sides-more, side-fails, sides-all, run-corners, is-time, off-plane, outside, unreached, taken}
+use Rattle.wall_ray.proofs.StruckLaws.{sides-more, side-fails, sides-all, is-time, off-plane, outside, unreached, taken}
 use Rattle.wall_ray.proofs.ScanLaws.{Scanned, scan-none, scan-all, best-skip, best-take}
 use Rattle.wall_ray.proofs.scan.scan.Statement.{statement}
 use Rattle.wall_ray.proofs.scan.scan.Tie as tie
@@ -139,7 +139,7 @@ is-run-reached-requires c κs =
     let i = turn d .before .before .before .before in
     let r = run-room _ _ _ _ _ _ (readable i) (i .before .before .before .before .vertex-count .ensures) (i .before .before .before .polygon-count .ensures) (i .next-test .taken)
     (rw (d .before .before .entry-at .ensures) at (d .before .first-vertex .ensures)) (rw (d .before .before .entry-at .ensures) at (d .run-length .ensures .0)) in
-    (r .inside, omega (arith, r .least))
+    (corners d, omega (arith, r .least))
 
 next-less-3 : tie.Need-next-less-3 Inv-loop μ-loop Inv-next μ-next
 next-less-3 c = let i = turn (c .before .before .before .before) .before .before .before .before in omega (arith, i .next-test .taken)

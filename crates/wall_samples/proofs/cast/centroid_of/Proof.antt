@@ -1,7 +1,7 @@
 -- `wall_samples::cast::centroid_of` meets its contract.
 use mathlib.Core.Path.{refl, ap, _∙_}
 use Rattle.file_part.specs.Part.{firstAt, countAt}
-use Rattle.solid_faces.proofs.BodyLaws.{entry-room, run-room, checked-readable}
+use Rattle.solid_faces.proofs.BodyLaws.{entry-room, run-room, run-corners, checked-readable}
 use Rattle.wall_samples.proofs.CastLaws.{run-centroid}
 use native.Mathlib.Omega.{arith}
 use Rattle.wall_samples.proofs.cast.centroid_of.Statement.{statement}
@@ -30,7 +30,8 @@ centroid-requires c κs =
     let s = c .before .before .before .before in
     let place = c .before .before .entry-at .ensures in
     let run = run-room _ _ _ _ _ _ (checked-readable _ (s .pre .0)) (s .pre .1 .0) refl (s .pre .1 .1) (c .before .first-vertex .ensures ∙ ap (firstAt _) place) (c .run-length .ensures .0 ∙ ap (countAt _) place) in
-    (run .inside, run .most)
+    let corners = run-corners _ _ _ _ _ _ _ (checked-readable _ (s .pre .0)) (s .pre .1 .0) refl (s .pre .1 .1) place (c .before .first-vertex .ensures) (c .run-length .ensures .0) in
+    (corners, run .most)
 
 returns : tie.Need-returns
 returns c = run-centroid _ _ _ _ _ _ _ (c .before .before .before .before .before .pre .1 .0) (c .before .before .before .entry-at .ensures) (c .before .before .first-vertex .ensures) (c .before .run-length .ensures .0) (c .centroid .ensures)

@@ -7,7 +7,7 @@ use Rattle.solid_polygon.proofs.polygon.Plane.new.Statement.{statement}
 use Rattle.solid_polygon.proofs.polygon.Plane.new.Tie as tie
 
 int-to-float-div : tie.Need-int-to-float-div
-int-to-float-div c = few-cast _ (c .before .before .before .before .before .before .pre .1)
+int-to-float-div c = few-cast _ (c .before .before .before .before .before .before .pre .1 .1)
 
 returns : tie.Need-returns
 unfolding planeOf normalOf planeCentroid

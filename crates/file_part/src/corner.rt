@@ -1,4 +1,4 @@
-// Corners of an accepted file, read with no test for a NaN: its coordinates are within 10,000. In a ray's inner loop the test costs time.
+// Corners of an accepted file, read with no test for a NaN: its coordinates are within 10,000. In loops over corners the test costs time.
 ghost use mathlib.Core.Path.{_≡_};
 ghost use Prim.Native.Nat.{_+_, _*_, _≤_};
 ghost use lib.ListN.{length};

@@ -1,9 +1,9 @@
--- `wall_ray::corner::corner` meets its contract.
+-- `file_part::corner::corner` meets its contract.
 use borrow.Author.Needs.{needs}
 use native.Mathlib.Omega.{arith}
 use Rattle.file_field.specs.Field.{vecAt}
-use Rattle.wall_ray.proofs.corner.corner.Statement.{statement}
-use Rattle.wall_ray.proofs.corner.corner.Tie as tie
+use Rattle.file_part.proofs.corner.corner.Statement.{statement}
+use Rattle.file_part.proofs.corner.corner.Tie as tie
 
 coordinate-requires : tie.Need-coordinate-requires
 unfolding vecAt

@@ -1,9 +1,9 @@
--- `wall_ray::corner::coordinate` meets its contract.
+-- `file_part::corner::coordinate` meets its contract.
 use borrow.Author.Needs.{needs}
 use Rattle.file_field.specs.Field.{f64At}
-use Rattle.wall_ray.proofs.StrikeLaws.{no-nan-bits}
-use Rattle.wall_ray.proofs.corner.coordinate.Statement.{statement}
-use Rattle.wall_ray.proofs.corner.coordinate.Tie as tie
+use Rattle.file_part.proofs.CornerLaws.{no-nan-bits}
+use Rattle.file_part.proofs.corner.coordinate.Statement.{statement}
+use Rattle.file_part.proofs.corner.coordinate.Tie as tie
 
 float-from-bits-result : tie.Need-float-from-bits-result
 float-from-bits-result c = no-nan-bits _ _ _ _ (c .u64-at .ensures) (c .before .before .pre .1)
