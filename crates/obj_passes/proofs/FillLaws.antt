@@ -1,4 +1,4 @@
--- The third pass: lines passed over, and windows of vertices.
+-- The second pass: lines passed over, and windows of vertices.
 use mathlib.Core.Path.{_≡_, refl, sym, ap, _∙_, subst}
 use mathlib.Core.Bool.{Bool, true, false, cond}
 use mathlib.Core.List.{List, [], _∷_}
@@ -6,24 +6,41 @@ use Prim.Native.Nat.{ℕ, _+_, _-_, _≤_, _<_}
 use native.Mathlib.Nat.{add-zero, le-trans, le-of-eq}
 use native.Mathlib.Decide.{decLe}
 use native.Mathlib.Omega.{arith}
-use lib.Dec.{eqb}
+use lib.Dec.{eqb, leb}
 use lib.ListN.{length, drop, getD, set, length-drop, length-set}
 use lib.Seq.{getD-drop, drop-drop, getD-set-same, getD-set-other}
 use lib.Ieee.{Float, nan}
-use borrow.Author.Tests.{eq-eqb, ne-eqb, eqb-false}
+use borrow.Author.Tests.{eqb-false}
 use Rattle.math.specs.declared.Vec3.{Vec3}
 use Rattle.obj_line.specs.declared.line.Corners.{Corners}
 use Rattle.obj_line.specs.declared.line.Line.{Line}
 use Rattle.obj_line.specs.declared.line.Line.the-variants as Line
-use Rattle.obj_line.specs.Form.{Form, vertex, face, group, skipped, other, formOf, lineOf}
-use Rattle.obj_text.specs.Text.{origin, formsOf, lineRefusal, verticesFrom, verticesOf, vertexOf}
+use Rattle.obj_line.specs.Form.{Form, vertex, face, group, skipped, other, formOf, largest, lineOf}
+use Rattle.obj_line.specs.Work.{vertexLine}
+use Rattle.obj_line.proofs.KindLaws.{Kind, form-kind}
+use Rattle.obj_text.specs.Text.{origin, formsOf, refusalFrom, lineRefusal, verticesFrom, verticesOf, vertexOf}
 use Rattle.obj_text.specs.Work.{formsFrom}
-use Rattle.obj_tables.specs.Tables.{Flushed, Axis}
-use Rattle.obj_tables.proofs.WindowLaws.{axis-flush}
-use Rattle.obj_passes.specs.Work.{Formed, AllFormed, vertexLine, defines, Nearer, Unnamed, Past, Skipped, Slots, storedIn, countAfter, LoadedLine, Holds, HoldsFrom, Loaded}
-use Rattle.obj_passes.specs.Passes.{Tables, rowAt, Filled}
-use Rattle.obj_passes.proofs.KindLaws.{Kind, form-kind}
-use Rattle.obj_passes.proofs.CollectLaws.{all-formed}
+use Rattle.obj_text.specs.Judged.{Slots}
+use Rattle.obj_passes.specs.Work.{Formed, AllFormed, defines, Nearer, Unnamed, Past, Skipped, storedIn, countAfter, LoadedLine, Holds, HoldsFrom, Loaded, Flushed, Axis}
+use Rattle.obj_passes.specs.Passes.{rowAt, Filled}
+use Rattle.obj_passes.proofs.WindowLaws.{axis-flush}
+
+clash : {A : Type 0} → _≡_ {A = ℕ} 0 1 → A
+clash z = absurd (omega arith)
+
+-- no line of a text that is not refused is of any other form
+all-formed : (fs : List Form) (n : ℕ) → refusalFrom n fs ≡ 0 → AllFormed fs
+unfolding AllFormed Formed refusalFrom
+all-formed [] n h = tt
+all-formed (vertex v ∷ fs) n h = (λ (e : vertex v ≡ other). clash cc, all-formed fs (n + 1) h)
+all-formed (face ns ∷ fs) n h = (λ (e : face ns ≡ other). clash cc, all-formed fs n (go (leb (largest ns) n) h))
+  where
+    go : (b : Bool) → cond b (refusalFrom n fs) 15 ≡ 0 → refusalFrom n fs ≡ 0
+    go true e = e
+    go false e = absurd (omega (arith, e))
+all-formed (group i ∷ fs) n h = (λ (e : group i ≡ other). clash cc, all-formed fs n h)
+all-formed (skipped ∷ fs) n h = (λ (e : skipped ≡ other). clash cc, all-formed fs n h)
+all-formed (other ∷ fs) n h = absurd (omega (arith, h))
 
 -- ---- vertices that no corner names
 pub unnamed-none : (numbers : List ℕ) (base r : ℕ) → Unnamed numbers 0 base r
@@ -140,19 +157,6 @@ module _ {text : List ℕ} {from most at n : ℕ} (k : Skipped text from most at
       room a b c d e p q r = omega (arith, p, q, r)
 
 -- ---- a line, as it is read: one that does not begin with a v is no vertex
-pub line-none : (l : List ℕ) → length l ≡ 0 → Line.Skipped ≡ vertexLine l
-unfolding vertexLine
-line-none [] h = refl
-line-none (b ∷ l) h = absurd (omega arith)
-
-pub line-not : (l : List ℕ) → (getD l 0 0 ≡ 118 → ⊥) → Line.Skipped ≡ vertexLine l
-unfolding vertexLine
-line-not l h = rw (ne-eqb (getD l 0 0) 118 h)
-
-pub line-read : (l : List ℕ) (line : Line) → getD l 0 0 ≡ 118 → line ≡ lineOf (formOf l) → line ≡ vertexLine l
-unfolding vertexLine
-line-read l line h e = rw (eq-eqb (getD l 0 0) 118 h) e
-
 pub record Shows (f : Form) (line : Line) : Type 0 where
   pub stored : (g : Vec3 → Float) (xs : List Float) (n : ℕ) → storedIn g xs n line ≡ storedIn g xs n (lineOf f)
   pub counted : (n : ℕ) → countAfter n line ≡ countAfter n (lineOf f)
@@ -352,17 +356,17 @@ axis-none f vs numbers used slots corners h k = record {
   corner = λ c l one most. absurd (omega (arith, one, most));
 }
 
-pub filling-all : (text numbers : List ℕ) (used : ℕ) (xs ys zs cx cy cz : List Float) → formsFrom text 0 ≡ formsOf text → lineRefusal text ≡ 0 → Tables xs ys zs cx cy cz
+pub filling-all : (text numbers : List ℕ) (used : ℕ) (xs ys zs cx cy cz : List Float) → formsFrom text 0 ≡ formsOf text → lineRefusal text ≡ 0 → Slots xs ys zs → Slots cx cy cz
     → Filling text numbers used 0 0 xs ys zs cx cy cz
 unfolding verticesOf lineRefusal
-filling-all text numbers used xs ys zs cx cy cz e h t = record {
+filling-all text numbers used xs ys zs cx cy cz e h s c = record {
   inside = omega arith;
   few = omega arith;
   left = ap verticesFrom (sym e);
   formed = subst AllFormed (sym e) (all-formed (formsOf text) 0 h);
-  along-x = axis-none (λ (v : Vec3). v .x) (verticesOf text) numbers used xs cx (t .xs-long) (t .cx-long);
-  along-y = axis-none (λ (v : Vec3). v .y) (verticesOf text) numbers used ys cy (t .ys-long) (t .cy-long);
-  along-z = axis-none (λ (v : Vec3). v .z) (verticesOf text) numbers used zs cz (t .zs-long) (t .cz-long);
+  along-x = axis-none (λ (v : Vec3). v .x) (verticesOf text) numbers used xs cx (s .xs-long) (c .xs-long);
+  along-y = axis-none (λ (v : Vec3). v .y) (verticesOf text) numbers used ys cy (s .ys-long) (c .ys-long);
+  along-z = axis-none (λ (v : Vec3). v .z) (verticesOf text) numbers used zs cz (s .zs-long) (c .zs-long);
 }
 
 -- vertices that no corner names, then a window of others

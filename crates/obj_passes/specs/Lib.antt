@@ -1,3 +1,3 @@
--- What the passes over OBJ text leave that is not refused.
+-- What the second pass over OBJ text leaves.
 pub mod Passes
 pub mod Work

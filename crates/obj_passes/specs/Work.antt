@@ -1,22 +1,18 @@
 -- What private functions leave on the way; a reader may pass over it. Definitions only.
 use mathlib.Core.Path.{_≡_}
-use mathlib.Core.Bool.{cond}
-use mathlib.Core.List.{List, [], _∷_, map}
-use Prim.Native.Nat.{ℕ, _+_, _≤_, _<_}
-use lib.Dec.{eqb}
+use mathlib.Core.Bool.{_&&_, cond}
+use mathlib.Core.List.{List, [], _∷_}
+use Prim.Native.Nat.{ℕ, _+_, _-_, _≤_, _<_}
+use lib.Dec.{ltb, leb}
 use lib.ListN.{length, drop, getD, set}
-use lib.Seq.{sets}
 use lib.Ieee.{Float, nan}
 use Rattle.math.specs.declared.Vec3.{Vec3}
-use Rattle.num_text.specs.Put.{Put}
-use Rattle.obj_number.specs.Whole.{capped}
 use Rattle.obj_line.specs.declared.line.Line.{Line}
 use Rattle.obj_line.specs.declared.line.Line.the-variants as Line
-use Rattle.obj_line.specs.Form.{Form, vertex, face, group, skipped, other, formOf, lineOf}
+use Rattle.obj_line.specs.Form.{Form, vertex, face, group, skipped, other}
 use Rattle.obj_text.specs.Text.{origin, verticesFrom}
+use Rattle.obj_text.specs.Judged.{Slots}
 use Rattle.obj_text.specs.Work.{formsFrom}
-use Rattle.obj_part.specs.Bytes.{entryBytes}
-use Rattle.obj_passes.specs.declared.collect.Run.{Run}
 
 -- a line that 14 does not refuse
 unfoldable pub Formed : Form → Type 0
@@ -26,38 +22,6 @@ unfoldable pub AllFormed : List Form → Type 0
 unfolding Formed
 AllFormed [] = Unit {0}
 AllFormed (f ∷ fs) = Formed f × AllFormed fs
-
--- ---- what one line adds: vertex numbers, the index in use, a polygon
-unfoldable pub numbersOf : Form → List ℕ
-numbersOf (vertex v) = []
-numbersOf (face ns) = ns
-numbersOf (group i) = []
-numbersOf skipped = []
-numbersOf other = []
-
-unfoldable pub indexAfter : ℕ → Form → ℕ
-indexAfter i (vertex v) = i
-indexAfter i (face ns) = i
-indexAfter i (group j) = j
-indexAfter i skipped = i
-indexAfter i other = i
-
-unfoldable pub entryOf : ℕ → ℕ → Form → List ℕ
-entryOf i first (vertex v) = []
-entryOf i first (face ns) = entryBytes i first (length ns)
-entryOf i first (group j) = []
-entryOf i first skipped = []
-entryOf i first other = []
-
-pub record CollectedLine (f : Form) (s : Run) (numbers out numbers' out' : List ℕ) (r : Run) : Type 0 where
-  pub pushed : numbers' ≡ sets numbers (s .used) (map capped (numbersOf f))
-  pub used-then : r .used ≡ s .used + length (numbersOf f)
-  pub index-then : r .index ≡ indexAfter (s .index) f
-  pub polygon : Put out (s .at) (entryOf (s .index) (s .used) f) out' (r .at)
-
--- a line that begins with a v, 118; any other is passed over
-unfoldable pub vertexLine : List ℕ → Line
-vertexLine l = cond (eqb (getD l 0 0) 118) (lineOf (formOf l)) Line.Skipped
 
 -- ---- vertices that no corner names
 pub record Nearer (gap base number r : ℕ) : Type 0 where
@@ -87,11 +51,6 @@ pub record Skipped (text : List ℕ) (from most at n : ℕ) : Type 0 where
   pub formed : AllFormed (formsFrom text at)
 
 -- ---- the vertices of a window
-pub record Slots (xs ys zs : List Float) : Type 0 where
-  pub xs-long : length xs ≡ 16384
-  pub ys-long : length ys ≡ 16384
-  pub zs-long : length zs ≡ 16384
-
 unfoldable pub storedIn : (Vec3 → Float) → List Float → ℕ → Line → List Float
 storedIn f xs n (Line.Vertex v) = set xs n (f v)
 storedIn f xs n (Line.Face c) = xs
@@ -131,3 +90,19 @@ pub record Loaded (text : List ℕ) (from : ℕ) (xs ys zs : List Float) (at n :
   pub holds-x : HoldsFrom (λ (v : Vec3). v .x) text from n xs
   pub holds-y : HoldsFrom (λ (v : Vec3). v .y) text from n ys
   pub holds-z : HoldsFrom (λ (v : Vec3). v .z) text from n zs
+
+-- ---- a window of vertices: those after the first `base`, `count` of them, with one coordinate of each in a table
+-- the coordinate of a corner: from the window where its number is one of the window's, else what it was
+unfoldable pub picked : List Float → ℕ → ℕ → ℕ → Float → Float
+picked slots base count number old = cond (ltb base number && leb number (base + count)) (getD slots (number - base - 1) nan) old
+
+pub record Flushed (numbers : List ℕ) (used base : ℕ) (slots : List Float) (count : ℕ) (before after : List Float) : Type 0 where
+  pub same-length : length after ≡ length before
+  pub each : (c : ℕ) → c < used → getD after c nan ≡ picked slots base count (getD numbers c 0) (getD before c nan)
+
+-- one coordinate f of the vertices vs: the window's, and those of the corners whose numbers lie before it
+pub record Axis (f : Vec3 → Float) (vs : List Vec3) (numbers : List ℕ) (used base count : ℕ) (slots corners : List Float) : Type 0 where
+  pub slots-long : length slots ≡ 16384
+  pub corners-long : length corners ≡ 16384
+  pub slot : (j : ℕ) → j < count → getD slots j nan ≡ f (getD vs (base + j) origin)
+  pub corner : (c : ℕ) → c < used → 1 ≤ getD numbers c 0 → getD numbers c 0 ≤ base → getD corners c nan ≡ f (getD vs (getD numbers c 0 - 1) origin)

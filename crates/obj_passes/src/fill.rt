@@ -1,29 +1,17 @@
-// The third pass: the coordinates of each corner.
+// The coordinates of each corner.
 ghost use mathlib.Core.Path.{_≡_};
 ghost use Prim.Native.Nat.{_+_, _≤_, _<_};
 ghost use lib.ListN.{length};
 ghost use Rattle.obj_line.specs.Form.{formOf};
 ghost use Rattle.obj_text.specs.Text.{lineRefusal};
+ghost use Rattle.obj_text.specs.Judged.{Slots};
 ghost use Rattle.obj_text.specs.Work.{formsFrom};
-ghost use Rattle.obj_passes.specs.Work.{Formed, AllFormed, vertexLine, defines, Nearer, Unnamed, Skipped, Slots, LoadedLine, Loaded};
-ghost use Rattle.obj_passes.specs.Passes.{Tables, Filled};
+ghost use Rattle.obj_passes.specs.Work.{Formed, AllFormed, defines, Nearer, Unnamed, Skipped, LoadedLine, Loaded};
+ghost use Rattle.obj_passes.specs.Passes.{Filled};
+use crate::window::flush;
 use obj_line::line::Line;
-use obj_line::line::read_line;
+use obj_line::line::read_vertex;
 use obj_number::cut::find;
-use obj_tables::window::flush;
-
-// A line that begins with a v; this pass has no use for any other.
-fn read_vertex(line: &[u8]) -> Line
-    ensures { λ r. ⌜ r ≡ vertexLine (now (line .entry)) ⌝ }
-{
-    if line.len() == 0 {
-        return Line::Skipped;
-    }
-    if line[0] != b'v' {
-        return Line::Skipped;
-    }
-    read_line(line)
-}
 
 // How far lines were passed: the place after them, and how many vertices they define.
 pub struct Place {
@@ -143,7 +131,7 @@ pub fn fill(
     cy: &mut [f64],
     cz: &mut [f64],
 )
-    requires { ⌜ used ≤ length (now numbers) ⌝ ∗ ⌜ used ≤ 16384 ⌝ ∗ ⌜ Tables (now xs) (now ys) (now zs) (now cx) (now cy) (now cz) ⌝ ∗ ⌜ lineRefusal (now text) ≡ 0 ⌝ }
+    requires { ⌜ used ≤ length (now numbers) ⌝ ∗ ⌜ used ≤ 16384 ⌝ ∗ ⌜ Slots (now xs) (now ys) (now zs) ⌝ ∗ ⌜ Slots (now cx) (now cy) (now cz) ⌝ ∗ ⌜ lineRefusal (now text) ≡ 0 ⌝ }
     ensures { λ _. ⌜ Filled (now (text .entry)) (now (numbers .entry)) used (now (cx .exit)) (now (cy .exit)) (now (cz .exit)) ⌝ }
 {
     let mut base: u64 = 0;

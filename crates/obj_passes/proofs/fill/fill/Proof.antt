@@ -25,7 +25,7 @@ abbrev μ-loop : tie.MeasureT-loop
 μ-loop text numbers used xs₀ ys₀ zs₀ cx₀ cy₀ cz₀ base₀ at₀ xs ys zs cx cy cz base at = length text + 1 - at
 
 loop-holds : tie.Need-loop-holds Inv-loop μ-loop
-loop-holds c = filling-all _ _ _ _ _ _ _ _ _ (forms-start (c .before .before .before .before .before .before .before .before .args .text .now)) (c .before .before .before .before .before .before .before .before .pre .1 .1 .1) (c .before .before .before .before .before .before .before .before .pre .1 .1 .0)
+loop-holds c = filling-all _ _ _ _ _ _ _ _ _ (forms-start (c .before .before .before .before .before .before .before .before .args .text .now)) (c .before .before .before .before .before .before .before .before .pre .1 .1 .1 .1) (c .before .before .before .before .before .before .before .before .pre .1 .1 .0) (c .before .before .before .before .before .before .before .before .pre .1 .1 .1 .0)
 
 unnamed-requires : tie.Need-unnamed-requires Inv-loop μ-loop
 unnamed-requires c κs = c .before .before .before .before .before .before .before .before .before .before .pre .0
@@ -67,13 +67,13 @@ same-length-3 : tie.Need-same-length-3 Inv-loop μ-loop
 same-length-3 c = c .before .loop .inv .along-z .slots-long ∙ sym ((c .before .before .before .before .before .before .before .before .before .before .pre .1 .1 .0) .zs-long)
 
 same-length-4 : tie.Need-same-length-4 Inv-loop μ-loop
-same-length-4 c = c .before .loop .inv .along-x .corners-long ∙ sym ((c .before .before .before .before .before .before .before .before .before .before .pre .1 .1 .0) .cx-long)
+same-length-4 c = c .before .loop .inv .along-x .corners-long ∙ sym ((c .before .before .before .before .before .before .before .before .before .before .pre .1 .1 .1 .0) .xs-long)
 
 same-length-5 : tie.Need-same-length-5 Inv-loop μ-loop
-same-length-5 c = c .before .loop .inv .along-y .corners-long ∙ sym ((c .before .before .before .before .before .before .before .before .before .before .pre .1 .1 .0) .cy-long)
+same-length-5 c = c .before .loop .inv .along-y .corners-long ∙ sym ((c .before .before .before .before .before .before .before .before .before .before .pre .1 .1 .1 .0) .ys-long)
 
 same-length-6 : tie.Need-same-length-6 Inv-loop μ-loop
-same-length-6 c = c .before .loop .inv .along-z .corners-long ∙ sym ((c .before .before .before .before .before .before .before .before .before .before .pre .1 .1 .0) .cz-long)
+same-length-6 c = c .before .loop .inv .along-z .corners-long ∙ sym ((c .before .before .before .before .before .before .before .before .before .before .pre .1 .1 .1 .0) .zs-long)
 
 returns : tie.Need-returns Inv-loop μ-loop
 returns c = filled (forms-end (c .before .before .before .before .before .before .before .before .before .before .args .text .now) (c .before .loop .at) (omega (arith, c .loop-test .left))) (c .before .loop .inv)

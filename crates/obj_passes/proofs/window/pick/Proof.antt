@@ -1,11 +1,11 @@
--- `obj_tables::window::pick` meets its contract.
+-- `obj_passes::window::pick` meets its contract.
 use borrow.Author.Needs.{needs}
 use mathlib.Core.Path.{sym}
 use denote.Ref.{now}
-use Rattle.obj_tables.proofs.WindowLaws.{pick-before, pick-inside, pick-after}
+use Rattle.obj_passes.proofs.WindowLaws.{pick-before, pick-inside, pick-after}
 use native.Mathlib.Omega.{arith}
-use Rattle.obj_tables.proofs.window.pick.Statement.{statement}
-use Rattle.obj_tables.proofs.window.pick.Tie as tie
+use Rattle.obj_passes.proofs.window.pick.Statement.{statement}
+use Rattle.obj_passes.proofs.window.pick.Tie as tie
 
 returns : tie.Need-returns
 returns c = sym (pick-before (now (c .before .args .slots)) (c .before .args .base) (c .before .args .count) (c .before .args .number) (c .before .args .old) (c .if1 .taken))

@@ -13,8 +13,7 @@ use lib.Ieee.{Float, nan}
 use borrow.Author.Tests.{eq-eqb, ne-eqb, lt-ltb, le-ltb, le-leb, lt-leb}
 use Rattle.math.specs.declared.Vec3.{Vec3}
 use Rattle.obj_text.specs.Text.{origin}
-use Rattle.obj_tables.specs.declared.window.Window.{Window}
-use Rattle.obj_tables.specs.Tables.{picked, Flushed, Axis, advanced, Kept}
+use Rattle.obj_passes.specs.Work.{picked, Flushed, Axis}
 
 -- ---- the coordinate of a corner
 module _ (slots : List Float) (base count number : ℕ) (old : Float) where
@@ -62,15 +61,6 @@ module _ {numbers : List ℕ} {c base : ℕ} {slots : List Float} {count : ℕ} 
   pub passed-all : (used : ℕ) → used ≤ c → Flushed numbers used base slots count before now
   passed-all used h = record { same-length = p .long; each = λ k g. p .done k (omega (arith, g)) }
 
--- ---- the window with one more
-pub advance-full : (w : Window) → w .count ≡ 16384 → record { base = w .base + 16384; count = 1 } ≡ advanced w
-unfolding advanced
-advance-full w h = rw (eq-eqb (w .count) 16384 h)
-
-pub advance-more : (w : Window) → (w .count ≡ 16384 → ⊥) → record { base = w .base; count = w .count + 1 } ≡ advanced w
-unfolding advanced
-advance-more w h = rw (ne-eqb (w .count) 16384 h)
-
 -- ---- one coordinate of all vertices
 module _ {f : Vec3 → Float} {vs : List Vec3} {numbers : List ℕ} {used base count : ℕ} {slots corners : List Float} (a : Axis f vs numbers used base count slots corners) where
   -- after a flush the window is empty
@@ -92,62 +82,3 @@ module _ {f : Vec3 → Float} {vs : List Vec3} {numbers : List ℕ} {used base c
           pick-inside slots base count n (getD corners c nan) more most
           ∙ a .slot (n - base - 1) (omega (arith, q, most))
           ∙ ap (λ (i : ℕ). f (getD vs i origin)) place
-
-  -- a vertex more in a window that is not full
-  pub axis-store : (x : Float) → count < 16384 → x ≡ f (getD vs (base + count) origin) → Axis f vs numbers used base (count + 1) (set slots count x) corners
-  axis-store x h e = record {
-    slots-long = length-set slots count x ∙ a .slots-long;
-    corners-long = a .corners-long;
-    slot = λ j g. go j g (decLe count j);
-    corner = a .corner;
-  }
-    where
-      room : count < length slots
-      room = omega (arith, a .slots-long)
-
-      go : (j : ℕ) → j < count + 1 → Dec (count ≤ j) → getD (set slots count x) j nan ≡ f (getD vs (base + j) origin)
-      go j g (yes q) =
-          let same : j ≡ count = omega (arith, g, q) in
-          ap (λ (i : ℕ). getD (set slots count x) i nan) same ∙ getD-set-same slots count x nan room ∙ e ∙ ap (λ (i : ℕ). f (getD vs (base + i) origin)) (sym same)
-      go j g (no q) = getD-set-other slots count j x nan (λ (y : j ≡ count). q (omega (arith, y))) ∙ a .slot j (omega (arith, q))
-
--- ---- one more vertex: the window as it is then
-advanced-full : (w : Window) → w .count ≡ 16384 → (advanced w .base ≡ w .base + w .count) × (advanced w .count ≡ 1)
-advanced-full w h =
-    let is = advance-full w h in
-    (sym (ap (λ (v : Window). v .base) is) ∙ ap (λ (k : ℕ). w .base + k) (sym h), sym (ap (λ (v : Window). v .count) is))
-
-advanced-more : (w : Window) → (w .count ≡ 16384 → ⊥) → (advanced w .base ≡ w .base) × (advanced w .count ≡ w .count + 1)
-advanced-more w h =
-    let is = advance-more w h in
-    (sym (ap (λ (v : Window). v .base) is), sym (ap (λ (v : Window). v .count) is))
-
-module _ (x : Float) (numbers : List ℕ) (used : ℕ) (w : Window) (slots corners : List Float) where
-  pub kept-full : (after : List Float) → w .count ≡ 16384 → Flushed numbers used (w .base) slots (w .count) corners after
-      → Kept x numbers used w slots corners (set slots 0 x) after
-  kept-full after h p = record {
-    slots-same = length-set slots 0 x;
-    corners-same = p .same-length;
-    axis = λ f vs a e. moved f vs (axis-store (axis-flush a after p) x (omega arith) (e ∙ ap (λ (i : ℕ). f (getD vs i origin)) (sym (add-zero (w .base + w .count)))));
-  }
-    where
-      moved : (f : Vec3 → Float) (vs : List Vec3) → Axis f vs numbers used (w .base + w .count) (0 + 1) (set slots 0 x) after
-          → Axis f vs numbers used (advanced w .base) (advanced w .count) (set slots 0 x) after
-      moved f vs a =
-          let is = advanced-full w h in
-          subst (λ (b : ℕ). Axis f vs numbers used b (advanced w .count) (set slots 0 x) after) (sym (is .0))
-          (subst (λ (k : ℕ). Axis f vs numbers used (w .base + w .count) k (set slots 0 x) after) (sym (is .1)) a)
-
-  pub kept-more : (w .count ≡ 16384 → ⊥) → w .count ≤ 16384 → Kept x numbers used w slots corners (set slots (w .count) x) corners
-  kept-more h most = record {
-    slots-same = length-set slots (w .count) x;
-    corners-same = refl;
-    axis = λ f vs a e. moved f vs (axis-store a x (omega (arith, h, most)) e);
-  }
-    where
-      moved : (f : Vec3 → Float) (vs : List Vec3) → Axis f vs numbers used (w .base) (w .count + 1) (set slots (w .count) x) corners
-          → Axis f vs numbers used (advanced w .base) (advanced w .count) (set slots (w .count) x) corners
-      moved f vs a =
-          let is = advanced-more w h in
-          subst (λ (b : ℕ). Axis f vs numbers used b (advanced w .count) (set slots (w .count) x) corners) (sym (is .0))
-          (subst (λ (k : ℕ). Axis f vs numbers used (w .base) k (set slots (w .count) x) corners) (sym (is .1)) a)

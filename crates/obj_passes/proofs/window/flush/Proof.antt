@@ -1,11 +1,11 @@
--- `obj_tables::window::flush` meets its contract: corner by corner.
+-- `obj_passes::window::flush` meets its contract: corner by corner.
 use borrow.Author.Needs.{needs}
 use Prim.Native.Nat.{_≤_, _-_}
 use lib.ListN.{length}
-use Rattle.obj_tables.proofs.WindowLaws.{Passed, passed-none, passed-more, passed-all}
+use Rattle.obj_passes.proofs.WindowLaws.{Passed, passed-none, passed-more, passed-all}
 use native.Mathlib.Omega.{arith}
-use Rattle.obj_tables.proofs.window.flush.Statement.{statement}
-use Rattle.obj_tables.proofs.window.flush.Tie as tie
+use Rattle.obj_passes.proofs.window.flush.Statement.{statement}
+use Rattle.obj_passes.proofs.window.flush.Tie as tie
 
 abbrev Inv-loop : tie.InvT-loop
 Inv-loop numbers used base slots count corners₀ c₀ corners c = (c ≤ used) × Passed numbers c base slots count corners₀ corners
