@@ -1,7 +1,7 @@
 -- The parts of the file, one after the other.
 use mathlib.Core.Path.{_≡_, refl, sym, ap, _∙_, subst}
 use mathlib.Core.List.{List, [], _∷_, _++_, map, append-assoc, append-nil}
-use Prim.Native.Nat.{ℕ, zero, suc, _+_, _*_, _-_, _≤_, _<_, _^_}
+use Prim.Native.Nat.{ℕ, zero, suc, _+_, _-_, _≤_, _<_, _^_}
 use native.Mathlib.Nat.{add-zero, zero-add, le-trans, le-of-eq}
 use native.Mathlib.Numerals.{add-one}
 use native.Mathlib.Decide.{decLe}
@@ -19,7 +19,7 @@ use Rattle.obj_text.specs.Text.{formsOf, lineRefusal, Face, facesOf, cornersFro
 use Rattle.obj_text.specs.Judged.{Tables, Sized, Judged}
 use Rattle.obj_text.proofs.LineLaws.{forms-length}
 use Rattle.obj_text.proofs.BoundLaws.{corner-inside}
-use Rattle.obj_passes.specs.Passes.{rowAt, Filled}
+use Rattle.obj_windows.specs.Filled.{rowAt, Filled}
 use Rattle.obj_part.specs.Bytes.{vecBytes, entryBytes, trailerBytes}
 use Rattle.obj_part.specs.File.{vertexBlock, entriesFrom, partFile}
 use Rattle.obj_part.proofs.FileLaws.{part-length}

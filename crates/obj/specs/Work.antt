@@ -12,7 +12,7 @@ use Rattle.file_ok.specs.Verdict.{tooLarge}
 use Rattle.obj_text.specs.declared.judge.Tally.{Tally}
 use Rattle.obj_text.specs.Text.{Face, facesOf, cornersOf, verticesOf, origin}
 use Rattle.obj_text.specs.Judged.{Tables, Slots, Sized}
-use Rattle.obj_passes.specs.Passes.{rowAt}
+use Rattle.obj_windows.specs.Filled.{rowAt}
 use Rattle.obj_part.specs.Bytes.{vecBytes, entryBytes}
 use Rattle.obj_part.specs.File.{partFile}
 

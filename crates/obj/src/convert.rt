@@ -1,6 +1,5 @@
 // OBJ text and a job as a part file.
 ghost use mathlib.Core.Path.{_≡_};
-ghost use Prim.Native.Nat.{_≤_};
 ghost use lib.ListN.{length};
 ghost use Rattle.obj.specs.Converts.{Converts};
 ghost use Rattle.obj.specs.Work.{sizeRefusal, tallyRefusal};

@@ -8,15 +8,15 @@ ghost use Rattle.obj_text.specs.Text.{lineRefusal, verticesOf};
 ghost use Rattle.obj_text.specs.Judged.{tables, Slots};
 ghost use Rattle.obj_part.specs.Bytes.{trailerBytes};
 ghost use Rattle.obj_part.specs.File.{vertexBlock, objRefusal};
-ghost use Rattle.obj_passes.specs.Passes.{rowAt};
+ghost use Rattle.obj_windows.specs.Filled.{rowAt};
 ghost use Rattle.obj.specs.Work.{rowsTo, namedRow, Named, Sources, firstAt, entriesTo, Ready, Written};
 use math::Vec3;
 use num_text::put::put_bytes;
 use obj_part::bytes::put_entry;
 use obj_part::bytes::put_trailer;
 use obj_part::bytes::put_vec;
-use obj_passes::fill::fill;
 use obj_text::judge::Tally;
+use obj_windows::fill::fill;
 
 // The vertices of the first `used` corners.
 fn put_vertices(out: &mut [u8], used: usize, xs: &[f64], ys: &[f64], zs: &[f64]) -> usize
@@ -35,7 +35,7 @@ fn put_vertices(out: &mut [u8], used: usize, xs: &[f64], ys: &[f64], zs: &[f64])
     at
 }
 
-// The vertices of the corners with these numbers, of which a table may not have all: by a second pass over the text.
+// The vertices of the corners with these numbers, where the tables have no place for all: by a second pass over the text.
 fn put_by_windows(
     text: &[u8],
     numbers: &[u64],
@@ -55,7 +55,7 @@ fn put_by_windows(
     put_vertices(out, used, &cx, &cy, &cz)
 }
 
-// The vertices of the corners with these numbers, from a table of all vertices.
+// The vertices of the corners with these numbers, from the tables of all vertices.
 fn put_by_number(
     numbers: &[u64],
     used: usize,
@@ -78,6 +78,26 @@ fn put_by_number(
         c += 1;
     }
     at
+}
+
+// The vertices: without a second pass where the tables have them all.
+fn put_corners(
+    text: &[u8],
+    t: Tally,
+    out: &mut [u8],
+    numbers: &[u64],
+    xs: &mut [f64],
+    ys: &mut [f64],
+    zs: &mut [f64],
+) -> usize
+    requires { ⌜ lineRefusal (now text) ≡ 0 ⌝ ∗ ⌜ Sources (now text) t (now numbers) (now xs) (now ys) (now zs) ⌝ }
+    ensures { λ r. ⌜ Put (now (out .entry)) 0 (vertexBlock (now (text .entry)) (take (t .corners) (now (numbers .entry)))) (now (out .exit)) r ⌝ }
+{
+    let used = t.corners;
+    if 16384 < t.defined {
+        return put_by_windows(text, numbers, used, out, xs, ys, zs);
+    }
+    put_by_number(numbers, used, out, xs, ys, zs)
 }
 
 // The polygons, from the tables of their indices and of how many corners each has.
@@ -110,26 +130,6 @@ fn put_end(out: &mut [u8], at: usize, job: &[u8], vertices: usize, polygons: usi
 {
     let next = put_bytes(out, at, job);
     put_trailer(out, next, vertices as u32, polygons as u32)
-}
-
-// The vertices: without a second pass where the tables have them all.
-fn put_corners(
-    text: &[u8],
-    t: Tally,
-    out: &mut [u8],
-    numbers: &[u64],
-    xs: &mut [f64],
-    ys: &mut [f64],
-    zs: &mut [f64],
-) -> usize
-    requires { ⌜ lineRefusal (now text) ≡ 0 ⌝ ∗ ⌜ Sources (now text) t (now numbers) (now xs) (now ys) (now zs) ⌝ }
-    ensures { λ r. ⌜ Put (now (out .entry)) 0 (vertexBlock (now (text .entry)) (take (t .corners) (now (numbers .entry)))) (now (out .exit)) r ⌝ }
-{
-    let used = t.corners;
-    if 16384 < t.defined {
-        return put_by_windows(text, numbers, used, out, xs, ys, zs);
-    }
-    put_by_number(numbers, used, out, xs, ys, zs)
 }
 
 // The whole file: vertices, polygons, then the end.

@@ -1,8 +1,8 @@
 -- The form of a line, from what is known of its fields.
-use mathlib.Core.Path.{_≡_, refl, sym, ap, _∙_, subst}
+use mathlib.Core.Path.{_≡_, refl, sym, ap, _∙_}
 use mathlib.Core.Bool.{Bool, true, false, _&&_, cond}
 use mathlib.Core.List.{List, [], _∷_, map}
-use Prim.Native.Nat.{ℕ, suc, zero-le, _+_, _≤_, _<_, _^_, min, max}
+use Prim.Native.Nat.{ℕ, suc, _+_, _≤_, _<_, _^_, min, max}
 use native.Mathlib.Nat.{add-zero, zero-add}
 use native.Mathlib.Omega.{arith}
 use lib.Dec.{eqb, leb, ltb}
@@ -11,13 +11,11 @@ use lib.Ieee.{Float}
 use borrow.Author.Tests.{eq-eqb, ne-eqb, le-leb, lt-leb, lt-ltb, le-ltb}
 use Rattle.math.specs.declared.Vec3.{Vec3}
 use Rattle.obj_number.specs.Cut.{before, after}
-use Rattle.obj_number.specs.Whole.{isWhole, allDigits, valueOf, capped}
+use Rattle.obj_number.specs.Whole.{isWhole, valueOf, capped}
 use Rattle.obj_number.specs.Decimal.{isSign, unsigned, digitsOf, isUnsigned, isDecimal, decimalOf}
-use Rattle.obj_line.specs.declared.line.Corners.{Corners}
 use Rattle.obj_line.specs.declared.line.Line.{Line}
 use Rattle.obj_line.specs.declared.line.Line.the-variants as Line
-use Rattle.obj_line.specs.Split.{fieldsOf}
-use Rattle.obj_line.specs.Form.{Form, vertex, face, group, skipped, other, vertexForm, isPositive, allPositive, faceForm, groupForm, fieldsForm, formOf, largest, lineOf}
+use Rattle.obj_line.specs.Form.{face, other, vertexForm, isPositive, allPositive, faceForm, groupForm, fieldsForm, formOf, largest, lineOf}
 use Rattle.obj_line.specs.Work.{fieldsAfter, first, others, faceLine}
 use Rattle.obj_line.proofs.SplitLaws.{fields-are}
 use Rattle.obj_line.proofs.FieldLaws.{RealTold, WholeTold}

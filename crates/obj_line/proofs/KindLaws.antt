@@ -2,12 +2,11 @@
 use mathlib.Core.Path.{_≡_, refl, sym, subst}
 use mathlib.Core.Bool.{Bool, true, false, _&&_, cond}
 use mathlib.Core.List.{List, [], _∷_, map}
-use Prim.Native.Nat.{ℕ, _≤_, _<_, _^_}
-use native.Mathlib.Nat.{le-trans, le-of-eq}
+use Prim.Native.Nat.{ℕ, _<_, _^_}
 use native.Mathlib.Omega.{arith}
 use lib.Dec.{eqb, leb, ltb}
-use lib.ListN.{length, drop, getD, length-map}
-use borrow.Author.Tests.{leb-true, eqb-true}
+use lib.ListN.{length, drop, getD}
+use borrow.Author.Tests.{eqb-true}
 use Rattle.obj_number.specs.Cut.{before}
 use Rattle.obj_number.specs.Whole.{isWhole, valueOf}
 use Rattle.obj_number.specs.Decimal.{isDecimal, decimalOf}

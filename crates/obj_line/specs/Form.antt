@@ -1,6 +1,6 @@
 -- What a line of OBJ text says. Definitions only.
 use mathlib.Core.Path.{_≡_}
-use mathlib.Core.Bool.{Bool, true, false, _&&_, cond}
+use mathlib.Core.Bool.{Bool, true, _&&_, cond}
 use mathlib.Core.List.{List, [], _∷_, map}
 use Prim.Native.Nat.{ℕ, _^_, max}
 use lib.Dec.{eqb, leb, ltb}
@@ -9,7 +9,6 @@ use lib.Seq.{sets}
 use Rattle.math.specs.declared.Vec3.{Vec3}
 use Rattle.obj_number.specs.Whole.{isWhole, valueOf, capped}
 use Rattle.obj_number.specs.Decimal.{isDecimal, decimalOf}
-use Rattle.obj_line.specs.declared.line.Corners.{Corners}
 use Rattle.obj_line.specs.declared.line.Line.{Line}
 use Rattle.obj_line.specs.declared.line.Line.the-variants as Line
 use Rattle.obj_line.specs.Split.{fieldsOf}

@@ -2,7 +2,7 @@
 use mathlib.Core.Path.{_≡_, refl, sym, ap, _∙_, subst}
 use mathlib.Core.Bool.{Bool, true, false, cond}
 use mathlib.Core.List.{List, [], _∷_, _++_, map}
-use Prim.Native.Nat.{ℕ, suc, _+_, _≤_, _<_, _^_, min}
+use Prim.Native.Nat.{ℕ, suc, _+_, _≤_, min}
 use native.Mathlib.Nat.{add-zero, zero-add}
 use native.Mathlib.Omega.{arith}
 use lib.Dec.{leb}
@@ -18,7 +18,7 @@ use Rattle.obj_line.specs.Form.{Form, vertex, face, group, skipped, other, larg
 use Rattle.obj_text.specs.declared.judge.Tally.{Tally}
 use Rattle.obj_text.specs.Text.{formsOf, lineRefusal, verticesFrom, verticesOf, Face, facesFrom, facesOf, cornersFrom, cornersOf}
 use Rattle.obj_text.specs.Judged.{Tables, Slots, Sized, Judged}
-use Rattle.obj_text.specs.Work.{refusing, tallied, tallyFrom, start, vertexIn, indexIn, countIn, KeptVertex, KeptFace, NotedLine, indexAfter}
+use Rattle.obj_text.specs.Work.{refusing, tallied, start, vertexIn, indexIn, countIn, KeptVertex, KeptFace, NotedLine, indexAfter}
 use Rattle.obj_text.proofs.TallyLaws.{Told}
 
 -- ---- one line, as the code has it

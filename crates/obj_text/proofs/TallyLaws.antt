@@ -6,7 +6,7 @@ use Prim.Native.Nat.{ℕ, suc, _+_, _≤_, _<_, _^_, min}
 use native.Mathlib.Nat.{le-trans, le-of-eq}
 use native.Mathlib.Decide.{decLe}
 use native.Mathlib.Omega.{arith}
-use lib.Dec.{eqb, leb}
+use lib.Dec.{leb}
 use lib.ListN.{length, length-append}
 use borrow.Author.Tests.{eq-eqb, ne-eqb, le-leb, lt-leb}
 use Rattle.math.specs.declared.Vec3.{Vec3}
@@ -16,7 +16,7 @@ use Rattle.obj_line.specs.declared.line.Line.{Line}
 use Rattle.obj_line.specs.declared.line.Line.the-variants as Line
 use Rattle.obj_line.specs.Form.{Form, vertex, face, group, skipped, other, largest, lineOf}
 use Rattle.obj_text.specs.declared.judge.Tally.{Tally}
-use Rattle.obj_text.specs.Text.{formsOf, refusalFrom, lineRefusal, Face, facesFrom, facesOf, cornersFrom, cornersOf}
+use Rattle.obj_text.specs.Text.{formsOf, refusalFrom, lineRefusal, facesFrom, facesOf, cornersFrom, cornersOf}
 use Rattle.obj_text.specs.Work.{refusing, tallied, tallyFrom, start}
 use Rattle.obj_text.proofs.LineLaws.{forms-length}
 

@@ -6,7 +6,7 @@ use denote.Ref.{now}
 use lib.ListN.{length}
 use Rattle.num_text.specs.Put.{Put}
 use Rattle.num_text.proofs.PutLaws.{put-length}
-use Rattle.obj_passes.specs.Passes.{rowAt}
+use Rattle.obj_windows.specs.Filled.{rowAt}
 use Rattle.obj.specs.Work.{rowsTo, namedRow}
 use Rattle.obj.proofs.WriteLaws.{rows-none, rows-more}
 use native.Mathlib.Omega.{arith}

@@ -2,7 +2,6 @@
 use borrow.Author.Needs.{needs}
 use lib.ListN.{length-replicate}
 use lib.Ieee.{binary64, ofBits}
-use Rattle.num_text.proofs.PutLaws.{put-length}
 use Rattle.obj.proofs.WriteLaws.{put-block}
 use Rattle.obj.proofs.write.put_by_windows.Statement.{statement}
 use Rattle.obj.proofs.write.put_by_windows.Tie as tie

@@ -1,7 +1,6 @@
 -- `obj::write::put_corners` meets its contract: from the tables, or by a second pass.
 use borrow.Author.Needs.{needs}
 use denote.Ref.{now}
-use Rattle.num_text.proofs.PutLaws.{put-length}
 use Rattle.obj.proofs.WriteLaws.{named-within, put-named}
 use Rattle.obj.proofs.write.put_corners.Statement.{statement}
 use Rattle.obj.proofs.write.put_corners.Tie as tie

@@ -1,10 +1,9 @@
 -- `obj::write::write` meets its contract: one part after the other.
 use borrow.Author.Needs.{needs}
-use mathlib.Core.Path.{_∙_, sym}
+use mathlib.Core.Path.{_∙_}
 use denote.Ref.{now}
 use lib.ListN.{length}
 use Rattle.num_text.proofs.PutLaws.{put-length}
-use Rattle.obj_text.specs.Judged.{tables}
 use Rattle.obj.proofs.ConvertLaws.{accepted}
 use Rattle.obj.proofs.WriteLaws.{first-small, written}
 use native.Mathlib.Omega.{arith}

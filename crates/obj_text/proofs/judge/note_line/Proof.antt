@@ -1,8 +1,4 @@
 -- `obj_text::judge::note_line` meets its contract: line, tables and tally.
-use borrow.Author.Needs.{needs}
-use mathlib.Core.Path.{_∙_, ap, sym}
-use lib.ListN.{length}
-use lib.Seq.{length-sets}
 use Rattle.obj_text.proofs.NoteLaws.{noted, face-lengths, vertex-lengths}
 use native.Mathlib.Omega.{arith}
 use Rattle.obj_text.proofs.judge.note_line.Statement.{statement}

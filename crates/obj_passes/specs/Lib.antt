@@ -1,3 +1,0 @@
--- What the second pass over OBJ text leaves.
-pub mod Passes
-pub mod Work
