@@ -146,7 +146,7 @@ uint32_t gablemadder_check(const uint8_t *file, size_t file_len, uint32_t *words
  *   5            a job not of 128 bytes
  *   16           `out` is shorter than the part file, GABLEMADDER_FILE_LENGTH(corners, faces)
  *
- * A refusal changes nothing. gablemadder_obj_room(text_len) bytes are always enough. The tables of an accepted text take about 0.9 MB of stack. What
+ * A refusal changes nothing. gablemadder_obj_room(text_len) bytes are always enough. A call's tables take 0.97 MB of stack. What
  * the job says is not looked at: gablemadder_check of the file can answer 5 for it, 6, 8 and 9 for its vertices and faces, and 10 to 12.
  */
 uint32_t gablemadder_obj(const uint8_t *text, size_t text_len, const uint8_t *job, size_t job_len, uint8_t *out, size_t out_len, size_t *written);

@@ -11,11 +11,11 @@ use borrow.Author.Tests.{eqb-true, eqb-false, eq-eqb, ne-eqb, lt-ltb, le-ltb, lt
 use Rattle.file_ok.specs.Verdict.{tooLarge}
 use Rattle.obj_text.specs.declared.judge.Tally.{Tally}
 use Rattle.obj_text.specs.Text.{lineRefusal, facesOf, cornersOf}
-use Rattle.obj_text.specs.Judged.{Judged}
+use Rattle.obj_text.specs.Judged.{Tables, Judged}
 use Rattle.obj_part.specs.File.{objRefusal}
 use Rattle.obj.specs.declared.convert.Converted.the-variants as Converted
 use Rattle.obj.specs.Converts.{accepts, Converts}
-use Rattle.obj.specs.Work.{sizeRefusal, Measured, Written}
+use Rattle.obj.specs.Work.{sizeRefusal, tallyRefusal, Written}
 
 -- ---- 3, 5 and 16
 module _ (v p job room : ℕ) where
@@ -48,57 +48,49 @@ first-passed : (text : List ℕ) (job room : ℕ) → lineRefusal text ≡ 0 →
 unfolding objRefusal sizeRefusal
 first-passed text job room h = rw (eq-eqb (lineRefusal text) 0 h)
 
-pub measured-refused : (text : List ℕ) (job room : ℕ) (t : Tally) → Judged text t → (t .refusal ≡ 0 → ⊥)
-    → Measured text job room (record { refusal = t .refusal; vertices = 0; polygons = 0 })
-measured-refused text job room t j h = record {
-  refusal-is = j .refusal ∙ sym (first-refused text job room (λ (e : lineRefusal text ≡ 0). h (j .refusal ∙ e)));
-  vertices-are = λ e. absurd (h e);
-  polygons-are = λ e. absurd (h e);
-}
-
 -- a count that stands for any more is too large as they are
-same-small : (n m : ℕ) → n ≤ m → min n (m + 1) ≡ n
+pub same-small : (n m : ℕ) → n ≤ m → min n (m + 1) ≡ n
 same-small n m h = omega arith
 
-pub measured-sized : (text : List ℕ) (job room k : ℕ) (t : Tally) → Judged text t → t .refusal ≡ 0 → k ≡ sizeRefusal (t .corners) (t .polygons) job room
-    → Measured text job room (record { refusal = k; vertices = t .corners; polygons = t .polygons })
-measured-sized text job room k t j h e = go (decLe v 16384) (decLe p 4096)
-  where
-    v : ℕ
-    v = length (cornersOf text)
+pub tally-first : (t : Tally) (job room : ℕ) → (t .refusal ≡ 0 → ⊥) → t .refusal ≡ tallyRefusal t job room
+unfolding tallyRefusal
+tally-first t job room h = rw (ne-eqb (t .refusal) 0 h)
 
-    p : ℕ
-    p = length (facesOf text)
+pub tally-sized : (t : Tally) (job room k : ℕ) → t .refusal ≡ 0 → k ≡ sizeRefusal (t .corners) (t .polygons) job room → k ≡ tallyRefusal t job room
+unfolding tallyRefusal
+tally-sized t job room k h e = rw (eq-eqb (t .refusal) 0 h) e
 
-    z : lineRefusal text ≡ 0
-    z = sym (j .refusal) ∙ h
+module _ (text : List ℕ) (a b : Tables) (t : Tally) (job room : ℕ) (j : Judged text a b t) where
+  size-same : lineRefusal text ≡ 0 → sizeRefusal (t .corners) (t .polygons) job room ≡ sizeRefusal (length (cornersOf text)) (length (facesOf text)) job room
+  size-same z = go (decLe v 16384) (decLe p 4096)
+    where
+      v : ℕ
+      v = length (cornersOf text)
 
-    over : sizeRefusal v p job room ≡ 3 → sizeRefusal (t .corners) (t .polygons) job room ≡ 3 → Measured text job room (record { refusal = k; vertices = t .corners; polygons = t .polygons })
-    over a b = record {
-      refusal-is = e ∙ b ∙ sym a ∙ sym (first-passed text job room z);
-      vertices-are = λ q. absurd (three (e ∙ b) q);
-      polygons-are = λ q. absurd (three (e ∙ b) q);
-    }
-      where
-        three : k ≡ 3 → k ≡ 0 → ⊥
-        three a b = omega arith
+      p : ℕ
+      p = length (facesOf text)
 
-    go : Dec (v ≤ 16384) → Dec (p ≤ 4096) → Measured text job room (record { refusal = k; vertices = t .corners; polygons = t .polygons })
-    go (yes a) (yes b) =
-        let c : t .corners ≡ v = j .corners z ∙ same-small v 16384 a in
-        let d : t .polygons ≡ p = j .polygons z ∙ same-small p 4096 b in
-        record {
-          refusal-is = e ∙ ap (λ (i : ℕ). sizeRefusal i (t .polygons) job room) c ∙ ap (λ (i : ℕ). sizeRefusal v i job room) d ∙ sym (first-passed text job room z);
-          vertices-are = λ q. c;
-          polygons-are = λ q. d;
-        }
-    go (no a) b =
-        let c = j .corners z in
-        over (sym (size-vertices v p job room (omega (arith, a)))) (sym (size-vertices (t .corners) (t .polygons) job room (omega (arith, a, c))))
-    go (yes a) (no b) =
-        let c : t .corners ≡ v = j .corners z ∙ same-small v 16384 a in
-        let d = j .polygons z in
-        over (sym (size-polygons v p job room a (omega (arith, b)))) (sym (size-polygons (t .corners) (t .polygons) job room (omega (arith, a, c)) (omega (arith, b, d))))
+      go : Dec (v ≤ 16384) → Dec (p ≤ 4096) → sizeRefusal (t .corners) (t .polygons) job room ≡ sizeRefusal v p job room
+      go (yes h) (yes k) =
+          ap (λ (i : ℕ). sizeRefusal i (t .polygons) job room) (j .corners z ∙ same-small v 16384 h) ∙ ap (λ (i : ℕ). sizeRefusal v i job room) (j .polygons z ∙ same-small p 4096 k)
+      go (no h) k =
+          let c = j .corners z in
+          sym (size-vertices (t .corners) (t .polygons) job room (omega (arith, h, c))) ∙ size-vertices v p job room (omega (arith, h))
+      go (yes h) (no k) =
+          let c : t .corners ≡ v = j .corners z ∙ same-small v 16384 h in
+          let d = j .polygons z in
+          sym (size-polygons (t .corners) (t .polygons) job room (omega (arith, h, c)) (omega (arith, k, d))) ∙ size-polygons v p job room h (omega (arith, k))
+
+  pub refusal-same : tallyRefusal t job room ≡ objRefusal text job room
+  refusal-same = go (eqb (t .refusal) 0) refl
+    where
+      go : (q : Bool) → eqb (t .refusal) 0 ≡ q → tallyRefusal t job room ≡ objRefusal text job room
+      go true e =
+          let z : lineRefusal text ≡ 0 = sym (j .refusal) ∙ eqb-true (t .refusal) 0 e in
+          sym (tally-sized t job room _ (eqb-true (t .refusal) 0 e) refl) ∙ size-same z ∙ sym (first-passed text job room z)
+      go false e =
+          let some = eqb-false (t .refusal) 0 e in
+          sym (tally-first t job room some) ∙ j .refusal ∙ sym (first-refused text job room (λ (z : lineRefusal text ≡ 0). some (j .refusal ∙ z)))
 
 -- ---- none of them
 pub record Accepted (text : List ℕ) (job room : ℕ) : Type 0 where

@@ -1,36 +1,40 @@
 -- The parts of the file, one after the other.
 use mathlib.Core.Path.{_≡_, refl, sym, ap, _∙_, subst}
 use mathlib.Core.List.{List, [], _∷_, _++_, map, append-assoc, append-nil}
-use Prim.Native.Nat.{ℕ, zero, suc, _+_, _*_, _-_, _≤_, _<_, _^_, min}
-use native.Mathlib.Nat.{zero-add, le-trans, le-of-eq}
+use Prim.Native.Nat.{ℕ, zero, suc, _+_, _-_, _≤_, _<_, _^_}
+use native.Mathlib.Nat.{add-zero, zero-add, le-trans, le-of-eq}
 use native.Mathlib.Numerals.{add-one}
+use native.Mathlib.Decide.{decLe}
 use native.Mathlib.Omega.{arith}
-use lib.ListN.{length, take, drop, getD, length-append, List·getD-append}
-use lib.Seq.{sets, sets-eq, length-sets, take-suc, take-at, drop-at, length-take-le}
-use lib.Ieee.{Float}
+use lib.ListN.{length, take, drop, getD, length-map, length-append, List·getD-append}
+use lib.Seq.{sets, sets-eq, take-suc, take-at, take-length}
+use lib.Ieee.{Float, nan}
 use Rattle.math.specs.declared.Vec3.{Vec3}
-use Rattle.num_text.specs.Put.{over, advance, Put}
-use Rattle.num_text.proofs.PutLaws.{put-none, put-then, put-same, put-length, put-le, put-front, put-measures}
+use Rattle.num_text.specs.Put.{Put}
+use Rattle.num_text.proofs.PutLaws.{put-none, put-then, put-same, put-length, put-front, put-measures}
 use Rattle.obj_number.specs.Whole.{capped}
 use Rattle.obj_line.specs.Form.{Form, vertex, face, group, skipped, other}
-use Rattle.obj_text.specs.Text.{formsOf, lineRefusal, facesOf, cornersOf, verticesFrom, verticesOf, vertexOf}
+use Rattle.obj_text.specs.declared.judge.Tally.{Tally}
+use Rattle.obj_text.specs.Text.{formsOf, lineRefusal, Face, facesOf, cornersFrom, cornersOf, verticesFrom, verticesOf, origin, vertexOf}
+use Rattle.obj_text.specs.Judged.{Tables, Sized, Judged}
 use Rattle.obj_text.proofs.LineLaws.{forms-length}
 use Rattle.obj_text.proofs.BoundLaws.{corner-inside}
-use Rattle.obj_passes.specs.Passes.{rowAt, Filled}
-use Rattle.obj_part.specs.Bytes.{vecBytes, trailerBytes}
+use Rattle.obj_windows.specs.Filled.{rowAt, Filled}
+use Rattle.obj_part.specs.Bytes.{vecBytes, entryBytes, trailerBytes}
 use Rattle.obj_part.specs.File.{vertexBlock, entriesFrom, partFile}
-use Rattle.obj_part.proofs.FileLaws.{block-length, entries-length, part-length}
-use Rattle.obj.specs.Work.{rowsTo, Numbers, Written}
+use Rattle.obj_part.proofs.FileLaws.{part-length}
+use Rattle.obj.specs.Work.{rowsTo, namedRow, Named, Rows, firstAt, entriesTo, Ready, Written}
+use Rattle.obj.proofs.ConvertLaws.{Accepted, same-small}
 
 -- ---- the vertices, one by one
-module _ (xs ys zs : List Float) where
-  pub rows-none : (d : List ℕ) → length d < 2 ^ 63 → Put d 0 (rowsTo xs ys zs 0) d 0
+module _ (row : ℕ → Vec3) where
+  pub rows-none : (d : List ℕ) → length d < 2 ^ 63 → Put d 0 (rowsTo row 0) d 0
   unfolding rowsTo
   rows-none d h = put-none d 0 h
 
-  pub rows-more : {d e f : List ℕ} {at r : ℕ} (c : ℕ) → Put d 0 (rowsTo xs ys zs c) e at → Put e at (vecBytes (rowAt xs ys zs c)) f r → Put d 0 (rowsTo xs ys zs (c + 1)) f r
+  pub rows-more : {d e f : List ℕ} {at r : ℕ} (c : ℕ) → Put d 0 (rowsTo row c) e at → Put e at (vecBytes (row c)) f r → Put d 0 (rowsTo row (c + 1)) f r
   unfolding rowsTo
-  rows-more c a b = put-same _ _ (ap (rowsTo xs ys zs) (sym (add-one c))) (put-then (rowsTo xs ys zs c) (vecBytes (rowAt xs ys zs c)) a b)
+  rows-more c a b = put-same _ _ (ap (rowsTo row) (sym (add-one c))) (put-then (rowsTo row c) (vecBytes (row c)) a b)
 
 block-snoc : (text ns : List ℕ) (n : ℕ) → vertexBlock text (ns ++ (n ∷ [])) ≡ vertexBlock text ns ++ vecBytes (vertexOf text n)
 unfolding vertexBlock
@@ -38,31 +42,36 @@ block-snoc text [] n = append-nil (vecBytes (vertexOf text n))
 block-snoc text (m ∷ ns) n =
     ap (λ (l : List ℕ). vecBytes (vertexOf text m) ++ l) (block-snoc text ns n) ∙ sym (append-assoc (vecBytes (vertexOf text m)) (vertexBlock text ns) (vecBytes (vertexOf text n)))
 
-rows-to : (text ns : List ℕ) (xs ys zs : List Float) (used k : ℕ) → ((c : ℕ) → c < used → rowAt xs ys zs c ≡ vertexOf text (getD ns c 0)) → used ≤ length ns → k ≤ used
-    → rowsTo xs ys zs k ≡ vertexBlock text (take k ns)
+rows-to : (text ns : List ℕ) (row : ℕ → Vec3) (used k : ℕ) → ((c : ℕ) → c < used → row c ≡ vertexOf text (getD ns c 0)) → used ≤ length ns → k ≤ used
+    → rowsTo row k ≡ vertexBlock text (take k ns)
 unfolding rowsTo vertexBlock
-rows-to text ns xs ys zs used zero each h l = refl
-rows-to text ns xs ys zs used (suc k) each h l =
-    ap (λ (b : List ℕ). b ++ vecBytes (rowAt xs ys zs k)) (rows-to text ns xs ys zs used k each h (omega arith))
+rows-to text ns row used zero each h l = refl
+rows-to text ns row used (suc k) each h l =
+    ap (λ (b : List ℕ). b ++ vecBytes (row k)) (rows-to text ns row used k each h (omega arith))
     ∙ ap (λ (v : Vec3). vertexBlock text (take k ns) ++ vecBytes v) (each k l)
     ∙ sym (ap (vertexBlock text) (take-suc ns k 0 (le-trans l h)) ∙ block-snoc text (take k ns) (getD ns k 0))
 
-pub put-block : {d e : List ℕ} {r : ℕ} (text ns : List ℕ) (xs ys zs : List Float) (used : ℕ) → used ≤ length ns → Numbers text ns used → Filled text ns used xs ys zs
-    → Put d 0 (rowsTo xs ys zs used) e r → Put d 0 (vertexBlock text (take used ns)) e r
+-- from the corners' own tables
+pub put-block : {d e : List ℕ} {r : ℕ} (text ns : List ℕ) (xs ys zs : List Float) (used : ℕ) → used ≤ length ns → Named ns used (length (verticesOf text)) → Filled text ns used xs ys zs
+    → Put d 0 (rowsTo (rowAt xs ys zs) used) e r → Put d 0 (vertexBlock text (take used ns)) e r
 put-block text ns xs ys zs used h n f p =
-    put-same _ _ (rows-to text ns xs ys zs used used (λ c l. f .each c l (n .from-one c l) (n .to-last c l)) h (le-of-eq refl)) p
+    put-same _ _ (rows-to text ns (rowAt xs ys zs) used used (λ c l. f .each c l (n .from-one c l) (n .to-last c l)) h (le-of-eq refl)) p
 
--- where the next byte goes
-pub next-most : {d e : List ℕ} {m : ℕ} (text ns : List ℕ) (used : ℕ) → used ≤ 16384 → used ≤ length ns → Put d 0 (vertexBlock text (take used ns)) e m → m ≤ 393216
-next-most {d} {e} {m} text ns used h k p =
-    small m (length (vertexBlock text (take used ns))) (length (take used ns)) (put-le (vertexBlock text (take used ns)) p) (block-length text (take used ns)) (length-take-le used ns k)
+-- from the tables of all vertices
+pub named-within : (text ns : List ℕ) (used n : ℕ) (xs ys zs : List Float) → Named ns used (length (verticesOf text)) → Rows text n xs ys zs → n ≤ 16384 → Named ns used 16384
+named-within text ns used n xs ys zs k r h = record {
+  from-one = k .from-one;
+  to-last = λ c l. le-trans (k .to-last c l) (le-trans (le-of-eq (sym (r .many))) h);
+}
+
+pub put-named : {d e : List ℕ} {r : ℕ} (text ns : List ℕ) (xs ys zs : List Float) (used n : ℕ) → used ≤ length ns → Named ns used (length (verticesOf text)) → Rows text n xs ys zs → n ≤ 16384
+    → Put d 0 (rowsTo (namedRow ns xs ys zs) used) e r → Put d 0 (vertexBlock text (take used ns)) e r
+unfolding namedRow vertexOf
+put-named text ns xs ys zs used n h k rows s p =
+    put-same _ _ (rows-to text ns (namedRow ns xs ys zs) used used (λ c l. rows .each s (getD ns c 0 - 1) (place (getD ns c 0) (length (verticesOf text)) (k .from-one c l) (k .to-last c l) (rows .many))) h (le-of-eq refl)) p
   where
-    small : (m b n : ℕ) → m ≤ 0 + b → b ≡ 24 * n → n ≡ used → m ≤ 393216
-    small m b n x y z = omega (arith, h)
-
-pub over-length : (d : List ℕ) (at : ℕ) (p e : List ℕ) → e ≡ over d at p → length e ≡ length d
-unfolding over
-over-length d at p e h = ap length h ∙ length-sets d at p
+    place : (m v : ℕ) → 1 ≤ m → m ≤ v → n ≡ v → m - 1 < n
+    place m v a b e = omega (arith, a, b, e)
 
 -- ---- the vertex numbers of the corners
 vertices-fewer : (fs : List Form) → length (verticesFrom fs) ≤ length fs
@@ -87,105 +96,198 @@ map-same [] h = refl
 map-same (n ∷ ns) h =
     ap (λ (m : ℕ). m ∷ map capped ns) (capped-same n (h 0 (omega arith))) ∙ ap (λ (l : List ℕ). n ∷ l) (map-same ns (λ c l. h (suc c) (omega (arith, l))))
 
--- of a text that is not refused they stand in the table as they are
-pub record Table (text numbers : List ℕ) : Type 0 where
-  pub long : length numbers ≡ 16384
-  pub first : take (length (cornersOf text)) numbers ≡ cornersOf text
-  pub numbered : Numbers text numbers (length (cornersOf text))
+-- ---- a table that begins with what was stored
+front : {A : Type 0} (l vs : List A) → length vs ≤ length l → sets l 0 vs ≡ vs ++ drop (length vs) l
+front l vs h = sets-eq vs l 0 (le-trans (le-of-eq (zero-add (length vs))) h) ∙ ap (λ (i : ℕ). vs ++ drop i l) (zero-add (length vs))
 
-pub table : (text ns numbers : List ℕ) → length text < 2 ^ 63 → lineRefusal text ≡ 0 → length (cornersOf text) ≤ 16384 → length ns ≡ 16384 → numbers ≡ sets ns 0 (map capped (cornersOf text))
-    → Table text numbers
-table text ns numbers s z most k e =
-    record {
-      long = ap length e ∙ length-sets ns 0 (map capped cs) ∙ k;
-      first = ap (take (length cs)) are ∙ take-at cs (drop (length cs) ns) (length cs) refl;
-      numbered = record {
-        from-one = λ c l. subst (λ (n : ℕ). 1 ≤ n) (sym (at c l)) (corner-inside text z c l .from);
-        to-last = λ c l. subst (λ (n : ℕ). n ≤ length (verticesOf text)) (sym (at c l)) (corner-inside text z c l .to);
-      };
-    }
+at-front : {A : Type 0} (d : A) (l vs t : List A) (p : ℕ) → t ≡ sets l 0 vs → length vs ≤ length l → p < length vs → getD t p d ≡ getD vs p d
+at-front d l vs t p e h k = ap (λ (q : List _). getD q p d) (e ∙ front l vs h) ∙ List·getD-append vs (drop (length vs) l) d p k
+
+at-map : {A B : Type 0} (g : A → B) (l : List A) (p : ℕ) (d : A) (e : B) → p < length l → getD (map g l) p e ≡ g (getD l p d)
+at-map g [] p d e h = absurd (omega (arith, h))
+at-map g (x ∷ l) zero d e h = refl
+at-map g (x ∷ l) (suc p) d e h = at-map g l p d e (omega (arith, h))
+
+mapped : {A B : Type 0} (g : A → B) (all : List A) (l t : List B) (n p : ℕ) (d : A) (e : B) → t ≡ sets l 0 (map g all) → length l ≡ n → length all ≤ n → p < length all → getD t p e ≡ g (getD all p d)
+mapped g all l t n p d e s h k q =
+    at-front e l (map g all) t p s (room (length (map g all)) (length l) (length-map all g) h) (here (length (map g all)) (length-map all g)) ∙ at-map g all p d e q
   where
-    cs : List ℕ
-    cs = cornersOf text
+    room : (a b : ℕ) → a ≡ length all → b ≡ n → a ≤ b
+    room a b x y = omega (arith, x, y, k)
 
-    h : length cs ≤ length ns
-    h = le-trans most (le-of-eq (sym k))
+    here : (a : ℕ) → a ≡ length all → p < a
+    here a x = omega (arith, x, q)
 
-    same : map capped cs ≡ cs
-    same = map-same cs (λ c l. le-trans (corner-inside text z c l .to) (vertices-most text s))
+same-vec : (v : Vec3) (a b c : Float) → a ≡ v .x → b ≡ v .y → c ≡ v .z → _≡_ {A = Vec3} (record { x = a; y = b; z = c }) v
+same-vec v a b c p q r = rw (p, q, r)
 
-    are : numbers ≡ cs ++ drop (length cs) ns
-    are = e ∙ ap (sets ns 0) same ∙ sets-eq cs ns 0 (le-trans (le-of-eq (zero-add (length cs))) h) ∙ ap (λ (i : ℕ). cs ++ drop i ns) (zero-add (length cs))
+-- ---- what the first pass has left of a text that nothing refuses
+module _ (text : List ℕ) (a b : Tables) (t : Tally) (s : length text < 2 ^ 63) (z : lineRefusal text ≡ 0) (C : length (cornersOf text) ≤ 16384) (P : length (facesOf text) ≤ 4096) (q : Sized a)
+    (j : Judged text a b t) where
+  abbrev cs : List ℕ
+  cs = cornersOf text
 
-    at : (c : ℕ) → c < length cs → getD numbers c 0 ≡ getD cs c 0
-    at c l = ap (λ (q : List ℕ). getD q c 0) are ∙ List·getD-append cs (drop (length cs) ns) 0 c l
+  many : t .corners ≡ length cs
+  many = j .corners z ∙ same-small (length cs) 16384 C
 
--- ---- the polygons were written first, behind the place of the vertices
-module _ (b e j d d₁ d₂ d₃ : List ℕ) (m n r : ℕ) (h : length b + (length e + length j) ≤ length d) (s : length d < 2 ^ 63) (x : d₁ ≡ over d (length b) e) (y : Put d₁ 0 b d₂ m) where
-  behind : drop (length b) d₁ ≡ e ++ drop (length b + length e) d
-  unfolding over
-  behind =
-      ap (drop (length b)) (x ∙ sets-eq e d (length b) (omega (arith, h)) ∙ append-assoc (take (length b) d) e (drop (length b + length e) d))
-      ∙ drop-at (take (length b) d) (e ++ drop (length b + length e) d) (length b) (length-take-le (length b) d (omega (arith, h)))
+  faces : t .polygons ≡ length (facesOf text)
+  faces = j .polygons z ∙ same-small (length (facesOf text)) 4096 P
 
-  long : length d₁ ≡ length d
-  unfolding over
-  long = ap length x ∙ length-sets d (length b) e
+  same : map capped cs ≡ cs
+  same = map-same cs (λ c l. le-trans (corner-inside text z c l .to) (vertices-most text s))
 
-  both : Put d 0 (b ++ e) d₂ (length b + length e)
-  unfolding over advance
-  both = record {
-    room = s;
-    slice =
-        put-front b y (omega (arith, h, long))
-        ∙ ap (λ (l : List ℕ). b ++ l) behind
-        ∙ sym (append-assoc b e (drop (length b + length e) d))
-        ∙ ap (λ (i : ℕ). (b ++ e) ++ drop i d) (sym (length-append b e ∙ refl))
-        ∙ sym (sets-eq (b ++ e) d 0 (omega (arith, h, length-append b e)) ∙ ap (λ (i : ℕ). (b ++ e) ++ drop i d) (zero-add (length (b ++ e))));
-    next = place (length (b ++ e)) (length-append b e);
+  room : length cs ≤ length (a .numbers)
+  room = le-trans C (le-trans (omega arith) (le-of-eq (sym (q .numbers-long))))
+
+  are : b .numbers ≡ sets (a .numbers) 0 cs
+  are = j .numbers-are z C ∙ ap (sets (a .numbers) 0) same
+
+  at : (c : ℕ) → c < length cs → getD (b .numbers) c 0 ≡ getD cs c 0
+  at c l = at-front 0 (a .numbers) cs (b .numbers) c are room l
+
+  below : (c n m : ℕ) → n ≡ m → c < n → c < m
+  below c n m e l = omega (arith, e, l)
+
+  ready-rows : Rows text (t .defined) (b .xs) (b .ys) (b .zs)
+  unfolding rowAt
+  ready-rows = record {
+    many = j .defined z;
+    each = λ h i l.
+        let inside : i < length (verticesOf text) = below i (t .defined) (length (verticesOf text)) (j .defined z) l in
+        let few : length (verticesOf text) ≤ 16384 = le-trans (le-of-eq (sym (j .defined z))) h in
+        same-vec (getD (verticesOf text) i origin) (getD (b .xs) i nan) (getD (b .ys) i nan) (getD (b .zs) i nan)
+        (mapped (λ (v : Vec3). v .x) (verticesOf text) (a .xs) (b .xs) 16384 i origin nan (j .xs-are z) (q .slots .xs-long) few inside)
+        (mapped (λ (v : Vec3). v .y) (verticesOf text) (a .ys) (b .ys) 16384 i origin nan (j .ys-are z) (q .slots .ys-long) few inside)
+        (mapped (λ (v : Vec3). v .z) (verticesOf text) (a .zs) (b .zs) 16384 i origin nan (j .zs-are z) (q .slots .zs-long) few inside);
   }
+
+  pub ready : Ready text t b
+  ready = record {
+    sized = j .sized;
+    corners-are = many;
+    polygons-are = faces;
+    first = ap (λ (n : ℕ). take n (b .numbers)) many ∙ ap (take (length cs)) (are ∙ front (a .numbers) cs room) ∙ take-at cs (drop (length cs) (a .numbers)) (length cs) refl;
+    named = record {
+      from-one = λ c l. subst (λ (n : ℕ). 1 ≤ n) (sym (at c (below c _ _ many l))) (corner-inside text z c (below c _ _ many l) .from);
+      to-last = λ c l. subst (λ (n : ℕ). n ≤ length (verticesOf text)) (sym (at c (below c _ _ many l))) (corner-inside text z c (below c _ _ many l) .to);
+    };
+    rows = ready-rows;
+    index-at = λ d p l. mapped (λ (f : Face). f .index) (facesOf text) (a .indices) (b .indices) 4098 p d 0 (j .indices-are z P) (q .indices-long) (le-trans P (omega arith)) (below p _ _ faces l);
+    count-at = λ d p l. mapped (λ (f : Face). length (f .numbers)) (facesOf text) (a .counts) (b .counts) 4098 p d 0 (j .counts-are z P) (q .counts-long) (le-trans P (omega arith)) (below p _ _ faces l);
+  }
+
+-- ---- the polygons, one by one
+module _ (is cs : List ℕ) where
+  pub entries-none : (d : List ℕ) (at : ℕ) → length d < 2 ^ 63 → Put d at (entriesTo is cs 0) d at
+  unfolding entriesTo
+  entries-none d at h = put-none d at h
+
+  pub entries-more : {d e f : List ℕ} {from at r : ℕ} (p first count : ℕ) → Put d from (entriesTo is cs p) e at → first ≡ firstAt cs p → count ≡ getD cs p 0 → Put e at (entryBytes (getD is p 0) first count) f r
+      → Put d from (entriesTo is cs (p + 1)) f r
+  unfolding entriesTo
+  entries-more p first count a x y b =
+      put-same _ _ (ap (entriesTo is cs) (sym (add-one p)))
+      (put-then (entriesTo is cs p) (entryBytes (getD is p 0) (firstAt cs p) (getD cs p 0)) a
+      (put-same _ _ (ap (λ (i : ℕ). entryBytes (getD is p 0) i count) x ∙ ap (entryBytes (getD is p 0) (firstAt cs p)) y) b))
+
+  pub first-none : 0 ≡ firstAt cs 0
+  unfolding firstAt
+  first-none = refl
+
+  pub first-more : (p first count : ℕ) → first ≡ firstAt cs p → count ≡ getD cs p 0 → first + count ≡ firstAt cs (p + 1)
+  unfolding firstAt
+  first-more p first count x y = ap (λ (i : ℕ). i + count) x ∙ ap (λ (i : ℕ). firstAt cs p + i) y ∙ ap (firstAt cs) (sym (add-one p))
+
+  pub first-most : (n p : ℕ) → p < n → firstAt cs p + getD cs p 0 ≤ firstAt cs n
+  unfolding firstAt
+  first-most zero p l = absurd (omega (arith, l))
+  first-most (suc n) p l = go (decLe n p) (first-most n p)
     where
-      place : (t : ℕ) → t ≡ length b + length e → length b + length e ≡ 0 + min t (2 ^ 63 - 0)
-      place t k = omega (arith, h)
+      go : Dec (n ≤ p) → (p < n → firstAt cs p + getD cs p 0 ≤ firstAt cs n) → firstAt cs p + getD cs p 0 ≤ firstAt cs n + getD cs n 0
+      go (yes h) k = let e : p ≡ n = omega (arith, l, h) in le-of-eq (ap (λ (i : ℕ). firstAt cs i + getD cs i 0) e)
+      go (no h) k = le-trans (k (omega (arith, h))) (omega arith)
 
-  pub after-vertices : m ≡ length b
-  after-vertices = put-measures b y (omega (arith, h)) ∙ zero-add (length b)
-
-  whole : n ≡ length b + length e → Put d₂ n j d₃ r → Put d 0 (b ++ (e ++ j)) d₃ r
-  whole k z = put-same _ _ (append-assoc b e j) (put-then (b ++ e) j both (subst (λ (i : ℕ). Put d₂ i j d₃ r) k z))
-
-pub written : (text job d d₁ d₂ d₃ : List ℕ) (v p n m r : ℕ) → 24 * length (cornersOf text) + 80 * length (facesOf text) + 144 ≤ length d → length job ≡ 128 → length d < 2 ^ 63
-    → v ≡ length (cornersOf text) → p ≡ length (facesOf text) → d₁ ≡ over d (24 * v) (entriesFrom 0 (facesOf text)) → Put d₁ 0 (vertexBlock text (cornersOf text)) d₂ m
-    → n ≡ m + 80 * p → Put d₂ n (job ++ trailerBytes v p) d₃ r → Written text job d d₃ r
-unfolding partFile
-written text job d d₁ d₂ d₃ v p n m r h k s ve pe x y ne z =
-    let total = put-measures (b ++ (e ++ j)) file (omega (arith, long)) in
-    record { same-length = put-length (b ++ (e ++ j)) file; length-is = total ∙ zero-add _; buffer-is = put-front (b ++ (e ++ j)) file (omega (arith, long)) }
+corners-snoc : (fs : List Face) (f : Face) → length (cornersFrom (fs ++ (f ∷ []))) ≡ length (cornersFrom fs) + length (f .numbers)
+unfolding cornersFrom
+corners-snoc [] f = ap length (append-nil (f .numbers)) ∙ sym (zero-add (length (f .numbers)))
+corners-snoc (g ∷ fs) f =
+    sum (length (g .numbers)) (length (cornersFrom fs)) (length (f .numbers)) _ _ _ (length-append (g .numbers) (cornersFrom (fs ++ (f ∷ [])))) (corners-snoc fs f) (length-append (g .numbers) (cornersFrom fs))
   where
-    b : List ℕ
-    b = vertexBlock text (cornersOf text)
+    sum : (a b c x y w : ℕ) → x ≡ a + y → y ≡ b + c → w ≡ a + b → x ≡ w + c
+    sum a b c x y w p q r = omega (arith, p, q, r)
 
-    e : List ℕ
-    e = entriesFrom 0 (facesOf text)
+entries-snoc : (u : ℕ) (fs : List Face) (f : Face) → entriesFrom u (fs ++ (f ∷ [])) ≡ entriesFrom u fs ++ entryBytes (f .index) (u + length (cornersFrom fs)) (length (f .numbers))
+unfolding entriesFrom cornersFrom
+entries-snoc u [] f = append-nil (entryBytes (f .index) u (length (f .numbers))) ∙ ap (λ (i : ℕ). entryBytes (f .index) i (length (f .numbers))) (sym (add-zero u))
+entries-snoc u (g ∷ fs) f =
+    let e = entryBytes (g .index) u (length (g .numbers)) in
+    let rest = entriesFrom (u + length (g .numbers)) fs in
+    ap (λ (l : List ℕ). e ++ l) (entries-snoc (u + length (g .numbers)) fs f)
+    ∙ ap (λ (i : ℕ). e ++ (rest ++ entryBytes (f .index) i (length (f .numbers)))) (sum u (length (g .numbers)) (length (cornersFrom fs)) _ (length-append (g .numbers) (cornersFrom fs)))
+    ∙ sym (append-assoc e rest (entryBytes (f .index) (u + length (g .numbers ++ cornersFrom fs)) (length (f .numbers))))
+  where
+    sum : (a b c x : ℕ) → x ≡ b + c → a + b + c ≡ a + x
+    sum a b c x e = omega (arith, e)
 
-    j : List ℕ
-    j = job ++ trailerBytes (length (cornersOf text)) (length (facesOf text))
+module _ (is cs : List ℕ) (fs : List Face) (d : Face) (n : ℕ) (h : n ≤ length fs) (I : (p : ℕ) → p < n → getD is p 0 ≡ getD fs p d .index) (K : (p : ℕ) → p < n → getD cs p 0 ≡ length (getD fs p d .numbers)) where
+  first-to : (k : ℕ) → k ≤ n → firstAt cs k ≡ length (cornersFrom (take k fs))
+  unfolding firstAt cornersFrom
+  first-to zero l = refl
+  first-to (suc k) l =
+      ap (λ (i : ℕ). i + getD cs k 0) (first-to k (omega arith))
+      ∙ ap (λ (i : ℕ). length (cornersFrom (take k fs)) + i) (K k l)
+      ∙ sym (ap (λ (g : List Face). length (cornersFrom g)) (take-suc fs k d (le-trans l h)) ∙ corners-snoc (take k fs) (getD fs k d))
 
-    long : length (b ++ (e ++ j)) ≤ length d
-    long = le-trans (le-of-eq (part-length text job k)) h
+  entries-to : (k : ℕ) → k ≤ n → entriesTo is cs k ≡ entriesFrom 0 (take k fs)
+  unfolding entriesTo entriesFrom
+  entries-to zero l = refl
+  entries-to (suc k) l =
+      ap (λ (b : List ℕ). b ++ entryBytes (getD is k 0) (firstAt cs k) (getD cs k 0)) (entries-to k (omega arith))
+      ∙ ap (λ (b : List ℕ). entriesFrom 0 (take k fs) ++ b) (entry (I k l) (first-to k (omega arith) ∙ sym (zero-add _)) (K k l))
+      ∙ sym (ap (entriesFrom 0) (take-suc fs k d (le-trans l h)) ∙ entries-snoc 0 (take k fs) (getD fs k d))
+    where
+      entry : {a b c x y w : ℕ} → a ≡ x → b ≡ y → c ≡ w → entryBytes a b c ≡ entryBytes x y w
+      entry p q r = rw (p, q, r)
 
-    sizes : length b + (length e + length j) ≤ length d
-    sizes = le-trans (le-of-eq (sym (length-append b (e ++ j) ∙ ap (λ (i : ℕ). length b + i) (length-append e j)))) long
+no-face : Face
+no-face = record { index = 0; numbers = [] }
 
-    place : d₁ ≡ over d (length b) e
-    place = x ∙ ap (λ (i : ℕ). over d i e) (ap (λ (i : ℕ). 24 * i) ve ∙ sym (block-length text (cornersOf text)))
+module _ {text : List ℕ} {t : Tally} {b : Tables} (r : Ready text t b) where
+  pub first-small : length (cornersOf text) ≤ 16384 → firstAt (b .counts) (t .polygons) ≤ 16384
+  unfolding cornersOf
+  first-small h =
+      le-trans
+      (le-of-eq
+      (first-to (b .indices) (b .counts) (facesOf text) no-face (t .polygons) (le-of-eq (r .polygons-are)) (r .index-at no-face) (r .count-at no-face) (t .polygons) (le-of-eq refl)
+      ∙ ap (λ (n : ℕ). length (cornersFrom (take n (facesOf text)))) (r .polygons-are)
+      ∙ ap (λ (l : List Face). length (cornersFrom l)) (take-length (facesOf text))))
+      h
 
-    ends : Put d₂ n j d₃ r
-    ends =
-        put-same _ _ (ap (λ (i : ℕ). job ++ trailerBytes i p) ve ∙ ap (λ (i : ℕ). job ++ trailerBytes (length (cornersOf text)) i) pe) z
+  pub entries-are : entriesTo (b .indices) (b .counts) (t .polygons) ≡ entriesFrom 0 (facesOf text)
+  entries-are =
+      entries-to (b .indices) (b .counts) (facesOf text) no-face (t .polygons) (le-of-eq (r .polygons-are)) (r .index-at no-face) (r .count-at no-face) (t .polygons) (le-of-eq refl)
+      ∙ ap (λ (n : ℕ). entriesFrom 0 (take n (facesOf text))) (r .polygons-are)
+      ∙ ap (entriesFrom 0) (take-length (facesOf text))
 
-    next : n ≡ length b + length e
-    next = ne ∙ ap (λ (i : ℕ). i + 80 * p) (after-vertices b e j d d₁ d₂ d₃ m n r sizes s place y) ∙ ap (λ (i : ℕ). length b + i) (ap (λ (i : ℕ). 80 * i) pe ∙ sym (entries-length (facesOf text) 0))
+-- ---- one after the other
+pub written : (text job d d₁ d₂ d₃ : List ℕ) (t : Tally) (b : Tables) (m n r : ℕ) → Accepted text (length job) (length d) → Ready text t b
+    → Put d 0 (vertexBlock text (take (t .corners) (b .numbers))) d₁ m → Put d₁ m (entriesTo (b .indices) (b .counts) (t .polygons)) d₂ n → Put d₂ n (job ++ trailerBytes (t .corners) (t .polygons)) d₃ r
+    → Written text job d d₃ r
+unfolding partFile
+written text job d d₁ d₂ d₃ t b m n r h k x y z =
+    let total = put-measures whole file (omega (arith, long, x .room)) in
+    record { same-length = put-length whole file; length-is = total ∙ zero-add _; buffer-is = put-front whole file long }
+  where
+    whole : List ℕ
+    whole = vertexBlock text (cornersOf text) ++ (entriesFrom 0 (facesOf text) ++ (job ++ trailerBytes (length (cornersOf text)) (length (facesOf text))))
 
-    file : Put d 0 (b ++ (e ++ j)) d₃ r
-    file = whole b e j d d₁ d₂ d₃ m n r sizes s place y next ends
+    long : length whole ≤ length d
+    long = le-trans (le-of-eq (part-length text job (h .job-long))) (h .room-enough)
+
+    ends : job ++ trailerBytes (t .corners) (t .polygons) ≡ job ++ trailerBytes (length (cornersOf text)) (length (facesOf text))
+    ends = ap (λ (i : ℕ). job ++ trailerBytes i (t .polygons)) (k .corners-are) ∙ ap (λ (i : ℕ). job ++ trailerBytes (length (cornersOf text)) i) (k .polygons-are)
+
+    file : Put d 0 whole d₃ r
+    file =
+        put-then _ _ (put-same _ _ (ap (vertexBlock text) (k .first)) x)
+        (put-then _ _ (put-same _ _ (entries-are k) y) (put-same _ _ ends z))

@@ -1,23 +1,16 @@
 // OBJ text and a job as a part file.
 ghost use mathlib.Core.Path.{_≡_};
-ghost use Prim.Native.Nat.{_≤_};
 ghost use lib.ListN.{length};
 ghost use Rattle.obj.specs.Converts.{Converts};
-ghost use Rattle.obj.specs.Work.{sizeRefusal, Measured};
+ghost use Rattle.obj.specs.Work.{sizeRefusal, tallyRefusal};
 use crate::write::write;
+use obj_text::judge::Tally;
 use obj_text::judge::judge;
 
 // How long the file is that was written, or the number of the refusal: 14, 15, 3, 5 or 16.
 pub enum Converted {
     Written(usize),
     Refused(u32),
-}
-
-// The refusal, 0 for none, and then how many vertices and polygons the file has.
-pub struct Size {
-    pub refusal: u32,
-    pub vertices: usize,
-    pub polygons: usize,
 }
 
 // Refusals 3, 5 and 16.
@@ -39,37 +32,51 @@ fn size_refusal(vertices: usize, polygons: usize, job: usize, room: usize) -> u3
     0
 }
 
-// What refuses a text.
-fn measure(text: &[u8], job: usize, room: usize) -> Size
-    ensures { λ r. ⌜ Measured (now (text .entry)) job room r ⌝ }
+// What refuses a text, 0 for none.
+fn refusal_of(t: Tally, job: usize, room: usize) -> u32
+    ensures { λ r. ⌜ r ≡ tallyRefusal t job room ⌝ }
 {
-    let t = judge(text);
-    let first = t.refusal;
-    if first != 0 {
-        return Size {
-            refusal: first,
-            vertices: 0,
-            polygons: 0,
-        };
+    if t.refusal != 0 {
+        return t.refusal;
     }
-    let vertices = t.corners;
-    let polygons = t.polygons;
-    let refusal = size_refusal(vertices, polygons, job, room);
-    Size {
-        refusal: refusal,
-        vertices: vertices,
-        polygons: polygons,
-    }
+    size_refusal(t.corners, t.polygons, job, room)
 }
 
-// The part file of the text's polygons and the job, in the first bytes of `out`.
+// The part file of the text's polygons and the job, in the first bytes of `out`. The tables are longer than a part file's most by what one line
+// can add to them.
 pub fn obj_to_part(text: &[u8], job: &[u8], out: &mut [u8]) -> Converted
     ensures { λ r. ⌜ Converts (now (text .entry)) (now (job .entry)) (now (out .entry)) (now (out .exit)) r ⌝ }
 {
-    let size = measure(text, job.len(), out.len());
-    if size.refusal != 0 {
-        return Converted::Refused(size.refusal);
+    let mut numbers = [0u64; 16_449];
+    let mut indices = [0u32; 4_098];
+    let mut counts = [0usize; 4_098];
+    let mut xs = [0.0f64; 16_384];
+    let mut ys = [0.0f64; 16_384];
+    let mut zs = [0.0f64; 16_384];
+    let t = judge(
+        text,
+        &mut numbers,
+        &mut indices,
+        &mut counts,
+        &mut xs,
+        &mut ys,
+        &mut zs,
+    );
+    let refusal = refusal_of(t, job.len(), out.len());
+    if refusal != 0 {
+        return Converted::Refused(refusal);
     }
-    let length = write(text, job, out, size.vertices, size.polygons);
+    let length = write(
+        text,
+        job,
+        out,
+        t,
+        &numbers,
+        &indices,
+        &counts,
+        &mut xs,
+        &mut ys,
+        &mut zs,
+    );
     Converted::Written(length)
 }

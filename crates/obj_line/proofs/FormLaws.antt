@@ -1,8 +1,8 @@
 -- The form of a line, from what is known of its fields.
-use mathlib.Core.Path.{_≡_, refl, sym, ap, _∙_, subst}
+use mathlib.Core.Path.{_≡_, refl, sym, ap, _∙_}
 use mathlib.Core.Bool.{Bool, true, false, _&&_, cond}
 use mathlib.Core.List.{List, [], _∷_, map}
-use Prim.Native.Nat.{ℕ, suc, zero-le, _+_, _≤_, _<_, _^_, min, max}
+use Prim.Native.Nat.{ℕ, suc, _+_, _≤_, _<_, _^_, min, max}
 use native.Mathlib.Nat.{add-zero, zero-add}
 use native.Mathlib.Omega.{arith}
 use lib.Dec.{eqb, leb, ltb}
@@ -11,13 +11,11 @@ use lib.Ieee.{Float}
 use borrow.Author.Tests.{eq-eqb, ne-eqb, le-leb, lt-leb, lt-ltb, le-ltb}
 use Rattle.math.specs.declared.Vec3.{Vec3}
 use Rattle.obj_number.specs.Cut.{before, after}
-use Rattle.obj_number.specs.Whole.{isWhole, allDigits, valueOf, capped}
+use Rattle.obj_number.specs.Whole.{isWhole, valueOf, capped}
 use Rattle.obj_number.specs.Decimal.{isSign, unsigned, digitsOf, isUnsigned, isDecimal, decimalOf}
-use Rattle.obj_line.specs.declared.line.Corners.{Corners}
 use Rattle.obj_line.specs.declared.line.Line.{Line}
 use Rattle.obj_line.specs.declared.line.Line.the-variants as Line
-use Rattle.obj_line.specs.Split.{fieldsOf}
-use Rattle.obj_line.specs.Form.{Form, vertex, face, group, skipped, other, vertexForm, isPositive, allPositive, faceForm, groupForm, fieldsForm, formOf, largest, lineOf}
+use Rattle.obj_line.specs.Form.{face, other, vertexForm, isPositive, allPositive, faceForm, groupForm, fieldsForm, formOf, largest, lineOf}
 use Rattle.obj_line.specs.Work.{fieldsAfter, first, others, faceLine}
 use Rattle.obj_line.proofs.SplitLaws.{fields-are}
 use Rattle.obj_line.proofs.FieldLaws.{RealTold, WholeTold}
@@ -129,10 +127,6 @@ pub face-few : (count most : ℕ) → count < 3 → faceLine count most [] ≡ L
 unfolding faceLine
 face-few count most h = rw (lt-leb 3 count h)
 
-pub face-many : (count most : ℕ) → 64 < count → faceLine count most [] ≡ Line.Other
-unfolding faceLine
-face-many count most h = rw (and-last (leb 3 count) (leb count 64) (lt-leb count 64 h))
-
 pub face-done : (count most : ℕ) → 3 ≤ count → count ≤ 64 → faceLine count most [] ≡ Line.Face record { count = count; largest = most }
 unfolding faceLine
 face-done count most h k = rw (le-leb 3 count h, le-leb count 64 k)
@@ -164,6 +158,16 @@ face-run (f ∷ fs) c m =
         → cond p r Line.Other ≡ corners ((p && a) && leb 3 n' && leb n' 64) n' k'
     step true a n n' k k' r e f h = h ∙ ap (λ (i : ℕ). corners (a && leb 3 i && leb i 64) i k) e ∙ ap (corners (a && leb 3 n' && leb n' 64) n') f
     step false a n n' k k' r e f h = refl
+
+-- a field after 64 numbers
+pub face-full : (fs gs : List (List ℕ)) (f : List ℕ) (count most : ℕ) → count ≡ 64 → fs ≡ f ∷ gs → faceLine count most fs ≡ Line.Other
+face-full fs gs f count most h e =
+    let more : 64 < count + length fs = some count (length fs) h (ap length e) in
+    face-run fs count most
+    ∙ ap (λ (b : Bool). corners b (count + length fs) (max most (capped (largest (map valueOf fs))))) (and-last (allPositive fs && leb 3 (count + length fs)) (leb (count + length fs) 64) (lt-leb (count + length fs) 64 more))
+  where
+    some : (a b : ℕ) → a ≡ 64 → b ≡ suc (length gs) → 64 < a + b
+    some a b p q = omega arith
 
 pub face-form : (fs : List (List ℕ)) → faceLine 0 0 fs ≡ lineOf (faceForm fs)
 unfolding faceForm lineOf
@@ -261,11 +265,11 @@ module _ (l : List ℕ) (n : length l ≡ 0 → ⊥) (h : getD l 0 0 ≡ 35 → 
       let is : formOf l ≡ vertexForm (fieldsAfter (drop 1 l)) = byte-form ∙ rw (eq-eqb (getD l 0 0) 118 e) in
       sym (ap lineOf is)
 
-  pub line-face : (getD l 0 0 ≡ 118 → ⊥) → getD l 0 0 ≡ 102 → lineOf (faceForm (fieldsAfter (drop 1 l))) ≡ lineOf (formOf l)
+  pub line-face : (getD l 0 0 ≡ 118 → ⊥) → getD l 0 0 ≡ 102 → faceForm (fieldsAfter (drop 1 l)) ≡ formOf l
   unfolding fieldsForm
   line-face a e =
       let is : formOf l ≡ faceForm (fieldsAfter (drop 1 l)) = byte-form ∙ rw (ne-eqb (getD l 0 0) 118 a, eq-eqb (getD l 0 0) 102 e) in
-      sym (ap lineOf is)
+      sym is
 
   pub line-group : (getD l 0 0 ≡ 118 → ⊥) → (getD l 0 0 ≡ 102 → ⊥) → getD l 0 0 ≡ 103 → lineOf (groupForm (fieldsAfter (drop 1 l))) ≡ lineOf (formOf l)
   unfolding fieldsForm

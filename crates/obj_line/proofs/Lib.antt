@@ -5,3 +5,7 @@ pub mod SplitLaws
 pub mod FieldLaws
 -- the form of a line from its fields
 pub mod FormLaws
+-- what a line's first byte tells of its form (`form-kind`)
+pub mod KindLaws
+-- a line as it is read, with the numbers of a face in a table
+pub mod ReadLaws

@@ -1,13 +1,14 @@
 -- What a line of OBJ text says. Definitions only.
-use mathlib.Core.Bool.{Bool, true, false, _&&_, cond}
+use mathlib.Core.Path.{_≡_}
+use mathlib.Core.Bool.{Bool, true, _&&_, cond}
 use mathlib.Core.List.{List, [], _∷_, map}
 use Prim.Native.Nat.{ℕ, _^_, max}
 use lib.Dec.{eqb, leb, ltb}
 use lib.ListN.{length}
+use lib.Seq.{sets}
 use Rattle.math.specs.declared.Vec3.{Vec3}
 use Rattle.obj_number.specs.Whole.{isWhole, valueOf, capped}
 use Rattle.obj_number.specs.Decimal.{isDecimal, decimalOf}
-use Rattle.obj_line.specs.declared.line.Corners.{Corners}
 use Rattle.obj_line.specs.declared.line.Line.{Line}
 use Rattle.obj_line.specs.declared.line.Line.the-variants as Line
 use Rattle.obj_line.specs.Split.{fieldsOf}
@@ -75,3 +76,17 @@ lineOf (face ns) = Line.Face record { count = length ns; largest = capped (large
 lineOf (group n) = Line.Group n
 lineOf skipped = Line.Skipped
 lineOf other = Line.Other
+
+-- the vertex numbers of a line
+unfoldable pub numbersOf : Form → List ℕ
+numbersOf (vertex v) = []
+numbersOf (face ns) = ns
+numbersOf (group i) = []
+numbersOf skipped = []
+numbersOf other = []
+
+-- A line as it is read: what it is, and the vertex numbers of a face in a table from the place `used` on, each up to 2 ^ 63
+pub record Read (f : Form) (before : List ℕ) (used : ℕ) (after : List ℕ) (r : Line) : Type 0 where
+  pub line : r ≡ lineOf f
+  pub same-length : length after ≡ length before
+  pub stored : (f ≡ other → ⊥) → after ≡ sets before used (map capped (numbersOf f))

@@ -4,12 +4,12 @@ use mathlib.Core.Bool.{_&&_, cond}
 use mathlib.Core.List.{List, [], _∷_}
 use Prim.Native.Nat.{ℕ, suc, _+_, _-_, _≤_, _<_, max}
 use lib.Dec.{eqb, leb}
-use lib.ListN.{length, take, drop}
+use lib.ListN.{length, take, drop, getD}
 use Rattle.obj_number.specs.Whole.{valueOf, capped}
 use Rattle.obj_line.specs.declared.line.Line.{Line}
 use Rattle.obj_line.specs.declared.line.Line.the-variants as Line
 use Rattle.obj_line.specs.Split.{split, squeeze}
-use Rattle.obj_line.specs.Form.{isPositive}
+use Rattle.obj_line.specs.Form.{isPositive, formOf, lineOf}
 
 -- how many spaces a list begins with
 unfoldable pub spacesOf : List ℕ → ℕ
@@ -43,3 +43,11 @@ pub record Next (line : List ℕ) (at from to : ℕ) : Type 0 where
 unfoldable pub faceLine : ℕ → ℕ → List (List ℕ) → Line
 faceLine count most [] = cond (leb 3 count && leb count 64) (Line.Face record { count = count; largest = most }) Line.Other
 faceLine count most (f ∷ fs) = cond (isPositive f) (faceLine (count + 1) (max most (capped (valueOf f))) fs) Line.Other
+
+-- the number of a field, as the table has it
+unfoldable pub cellOf : List ℕ → ℕ
+cellOf f = capped (valueOf f)
+
+-- a line that begins with a v, 118; any other is passed over
+unfoldable pub vertexLine : List ℕ → Line
+vertexLine l = cond (eqb (getD l 0 0) 118) (lineOf (formOf l)) Line.Skipped

@@ -1,9 +1,9 @@
 // What a line of OBJ text is.
 ghost use mathlib.Core.Path.{_≡_};
-ghost use Prim.Native.Nat.{max};
-ghost use lib.ListN.{drop};
-ghost use Rattle.obj_line.specs.Form.{vertexForm, faceForm, groupForm, formOf, lineOf};
-ghost use Rattle.obj_line.specs.Work.{fieldsAfter};
+ghost use Prim.Native.Nat.{_+_, _≤_, max};
+ghost use lib.ListN.{length, drop};
+ghost use Rattle.obj_line.specs.Form.{vertexForm, faceForm, groupForm, formOf, lineOf, Read};
+ghost use Rattle.obj_line.specs.Work.{fieldsAfter, vertexLine};
 use crate::field::next;
 use math::Vec3;
 use obj_number::cut::find;
@@ -65,14 +65,18 @@ fn larger(a: u64, b: u64) -> u64
     a
 }
 
-// A line that begins with an f.
-fn face_line(line: &[u8]) -> Line
-    ensures { λ r. ⌜ r ≡ lineOf (faceForm (fieldsAfter (drop 1 (now (line .entry))))) ⌝ }
+// A line that begins with an f. Its numbers stand in the table from the place `used` on.
+fn face_line(line: &[u8], numbers: &mut [u64], used: usize) -> Line
+    requires { ⌜ used + 64 ≤ length (now numbers) ⌝ }
+    ensures { λ r. ⌜ Read (faceForm (fieldsAfter (drop 1 (now (line .entry))))) (now (numbers .entry)) used (now (numbers .exit)) r ⌝ }
 {
     let mut at: usize = 1;
     let mut count: usize = 0;
     let mut largest: u64 = 0;
     while at < line.len() {
+        if count == 64 {
+            return Line::Other;
+        }
         let f = next(line, at);
         let from = f.from;
         let to = f.to;
@@ -82,14 +86,12 @@ fn face_line(line: &[u8]) -> Line
         if n == 0 {
             return Line::Other;
         }
+        numbers[used + count] = n;
         largest = larger(largest, n);
         count += 1;
         at = to;
     }
     if count < 3 {
-        return Line::Other;
-    }
-    if 64 < count {
         return Line::Other;
     }
     Line::Face(Corners {
@@ -117,9 +119,10 @@ fn group_line(line: &[u8]) -> Line
     Line::Group(n as u32)
 }
 
-// What a line is.
-pub fn read_line(line: &[u8]) -> Line
-    ensures { λ r. ⌜ r ≡ lineOf (formOf (now (line .entry))) ⌝ }
+// What a line is. The numbers of a face stand in the table from the place `used` on.
+pub fn read_line(line: &[u8], numbers: &mut [u64], used: usize) -> Line
+    requires { ⌜ used + 64 ≤ length (now numbers) ⌝ }
+    ensures { λ r. ⌜ Read (formOf (now (line .entry))) (now (numbers .entry)) used (now (numbers .exit)) r ⌝ }
 {
     if line.len() == 0 {
         return Line::Skipped;
@@ -135,10 +138,26 @@ pub fn read_line(line: &[u8]) -> Line
         return vertex_line(line);
     }
     if b == b'f' {
-        return face_line(line);
+        return face_line(line, numbers, used);
     }
     if b == b'g' {
         return group_line(line);
     }
     Line::Other
+}
+
+// A line if it begins with a v; any other is passed over.
+pub fn read_vertex(line: &[u8]) -> Line
+    ensures { λ r. ⌜ r ≡ vertexLine (now (line .entry)) ⌝ }
+{
+    if line.len() == 0 {
+        return Line::Skipped;
+    }
+    if line[0] != b'v' {
+        return Line::Skipped;
+    }
+    if find(line, b' ') != 1 {
+        return Line::Other;
+    }
+    vertex_line(line)
 }

@@ -10,7 +10,8 @@ use lib.Dec.{eqb}
 use lib.ListN.{length, getD, take, drop, length-drop, drop-of-length-le}
 use lib.Seq.{drop-cons, drop-nil, take-all}
 use borrow.Author.Tests.{eq-eqb, ne-eqb}
-use Rattle.obj_number.specs.Cut.{before, after, NoneTo}
+use Rattle.obj_number.specs.Cut.{before, after}
+use Rattle.obj_number.specs.Work.{NoneTo}
 
 -- ---- one byte more
 before-here : (b c : ℕ) (l : List ℕ) → c ≡ b → before b (c ∷ l) ≡ []

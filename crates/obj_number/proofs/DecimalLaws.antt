@@ -1,9 +1,9 @@
 -- A decimal of at most 15 digits is the quotient of two whole numbers that f64 holds, so that one division gives its nearest f64.
 use mathlib.Core.Path.{_≡_, refl, sym, ap, _∙_, subst}
 use mathlib.Core.Bool.{Bool, true, false, not, _&&_, cond}
-use mathlib.Core.List.{List, [], _∷_, _++_}
+use mathlib.Core.List.{List, [], _∷_}
 use Prim.Native.Nat.{ℕ, zero, suc, zero-le, _+_, _-_, _*_, _^_, _≤_, _<_, min}
-use native.Mathlib.Nat.{le-trans, le-of-eq, le-of-lt, lt-of-lt-of-le, lt-of-le-of-lt, lt-irrefl, mul-one, one-mul, zero-mul, mul-assoc, mul-comm, mul-right-comm, mul-left-comm, mul-pos, mul-lt-mul-of-pos-right, pow-le-pow-right}
+use native.Mathlib.Nat.{le-trans, le-of-eq, le-of-lt, lt-of-lt-of-le, lt-of-le-of-lt, lt-irrefl, mul-one, one-mul, zero-mul, mul-assoc, mul-comm, mul-left-comm, mul-pos, mul-lt-mul-of-pos-right, pow-le-pow-right}
 use native.Mathlib.Omega.{arith}
 use lib.IntN.{pos}
 use lib.Dec.{T, leb, eqb, ltb, le→leb, lit<, lit≤}

@@ -1,16 +1,15 @@
 -- Digits as a whole number: the cap, and how large a number of so many digits is.
-use mathlib.Core.Path.{_≡_, refl, sym, ap, _∙_, subst}
-use mathlib.Core.Bool.{Bool, true, false, not, _&&_, cond}
+use mathlib.Core.Path.{_≡_, refl, sym, ap, _∙_}
+use mathlib.Core.Bool.{Bool, true, false, _&&_, cond}
 use mathlib.Core.List.{List, [], _∷_, _++_}
-use Prim.Native.Nat.{ℕ, suc, _+_, _-_, _*_, _^_, _≤_, _<_, min}
+use Prim.Native.Nat.{ℕ, suc, _+_, _-_, _*_, _^_, _≤_, _<_}
 use native.Mathlib.Nat.{mul-one, mul-assoc, mul-comm, pow-suc, le-trans, le-of-eq, mul-le-mul-right}
 use native.Mathlib.Numerals.{add-one}
 use native.Mathlib.Omega.{arith}
-use lib.Dec.{leb, eqb}
+use lib.Dec.{leb}
 use lib.ListN.{length, getD, drop}
 use lib.Seq.{drop-cons}
-use borrow.Author.Tests.{leb-true, le-leb, eq-eqb, ne-eqb}
-use Rattle.obj_number.specs.declared.whole.Number.{Number}
+use borrow.Author.Tests.{leb-true, eq-eqb, ne-eqb}
 use Rattle.obj_number.specs.declared.whole.Number.the-variants.{Is, Not}
 use Rattle.obj_number.specs.Whole.{isDigit, allDigits, valueFrom, valueOf, isWhole, capped, digitsField, wholeField}
 

@@ -2,3 +2,4 @@
 pub mod Cut
 pub mod Whole
 pub mod Decimal
+pub mod Work

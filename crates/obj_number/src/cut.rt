@@ -1,7 +1,8 @@
 // Where a byte first stands.
 ghost use mathlib.Core.Path.{_≡_};
 ghost use lib.ListN.{length};
-ghost use Rattle.obj_number.specs.Cut.{before, NoneTo};
+ghost use Rattle.obj_number.specs.Cut.{before};
+ghost use Rattle.obj_number.specs.Work.{NoneTo};
 
 // A place up to which there is no b: where one stands, or with fewer than four bytes left.
 fn find_by_four(s: &[u8], b: u8) -> usize

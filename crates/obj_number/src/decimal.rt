@@ -3,7 +3,6 @@
 ghost use mathlib.Core.Path.{_≡_};
 ghost use mathlib.Core.Bool.{false, cond};
 ghost use Prim.Native.Nat.{_+_, _^_, _≤_, _<_, min};
-ghost use lib.ListN.{length};
 ghost use lib.Ieee.{binary64, round};
 ghost use Rattle.obj_number.specs.Decimal.{isSign, unsignedField, decimalField};
 use crate::cut::find;

@@ -5,3 +5,5 @@ pub mod LineLaws
 pub mod TallyLaws
 -- bounds on what a text says that neither 14 nor 15 refuses (`face-bounded`, `corner-inside`)
 pub mod BoundLaws
+-- the tables, line by line, and what they hold of the whole text
+pub mod NoteLaws

@@ -1,20 +1,20 @@
 -- The lines of a text from a place on, one after the other.
 use mathlib.Core.Path.{_≡_, refl, sym, ap, _∙_}
-use mathlib.Core.Bool.{Bool, true, false, cond}
+use mathlib.Core.Bool.{Bool, true, false}
 use mathlib.Core.List.{List, [], _∷_, map}
 use Prim.Native.Nat.{ℕ, suc, zero-le, _+_, _-_, _≤_, _<_}
 use native.Mathlib.Nat.{le-trans, le-of-eq}
 use native.Mathlib.Numerals.{add-one}
 use native.Mathlib.Decide.{decLt}
 use native.Mathlib.Omega.{arith}
-use lib.Dec.{eqb, leb}
+use lib.Dec.{eqb}
 use lib.ListN.{length, take, drop, getD, length-drop, length-map, drop-of-length-le}
 use lib.Seq.{drop-cons, drop-drop}
 use borrow.Author.Tests.{le-leb, lt-leb}
 use Rattle.obj_number.specs.Cut.{before}
 use Rattle.obj_number.proofs.CutLaws.{take-before, before-length}
 use Rattle.obj_line.specs.Split.{piece, split, linesOf}
-use Rattle.obj_line.specs.Form.{Form, formOf}
+use Rattle.obj_line.specs.Form.{formOf}
 use Rattle.obj_line.proofs.SplitLaws.{piecesAfter, split-cut}
 use Rattle.obj_text.specs.Text.{formsOf}
 use Rattle.obj_text.specs.Work.{linesFrom, formsFrom}

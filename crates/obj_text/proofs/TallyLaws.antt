@@ -6,7 +6,7 @@ use Prim.Native.Nat.{ℕ, suc, _+_, _≤_, _<_, _^_, min}
 use native.Mathlib.Nat.{le-trans, le-of-eq}
 use native.Mathlib.Decide.{decLe}
 use native.Mathlib.Omega.{arith}
-use lib.Dec.{eqb, leb}
+use lib.Dec.{leb}
 use lib.ListN.{length, length-append}
 use borrow.Author.Tests.{eq-eqb, ne-eqb, le-leb, lt-leb}
 use Rattle.math.specs.declared.Vec3.{Vec3}
@@ -16,18 +16,18 @@ use Rattle.obj_line.specs.declared.line.Line.{Line}
 use Rattle.obj_line.specs.declared.line.Line.the-variants as Line
 use Rattle.obj_line.specs.Form.{Form, vertex, face, group, skipped, other, largest, lineOf}
 use Rattle.obj_text.specs.declared.judge.Tally.{Tally}
-use Rattle.obj_text.specs.Text.{formsOf, refusalFrom, lineRefusal, Face, facesFrom, facesOf, cornersFrom, cornersOf}
-use Rattle.obj_text.specs.Judged.{Judged}
-use Rattle.obj_text.specs.Work.{tallied, tallyFrom, start}
+use Rattle.obj_text.specs.Text.{formsOf, refusalFrom, lineRefusal, facesFrom, facesOf, cornersFrom, cornersOf}
+use Rattle.obj_text.specs.Work.{refusing, tallied, tallyFrom, start}
 use Rattle.obj_text.proofs.LineLaws.{forms-length}
 
 -- ---- one line, as the code has it
 pub add-vertex : (t : Tally) (line : Line) (v : Vec3) → line ≡ Line.Vertex v
-    → record { refusal = t .refusal; defined = t .defined + 1; corners = t .corners; polygons = t .polygons } ≡ tallied t line
+    → record { refusal = t .refusal; defined = t .defined + 1; corners = t .corners; polygons = t .polygons; index = t .index } ≡ tallied t line
 unfolding tallied
 add-vertex t line v e = sym (ap (tallied t) e)
 
-pub add-group : (t : Tally) (line : Line) (n : ℕ) → line ≡ Line.Group n → t ≡ tallied t line
+pub add-group : (t : Tally) (line : Line) (n : ℕ) → line ≡ Line.Group n
+    → record { refusal = t .refusal; defined = t .defined; corners = t .corners; polygons = t .polygons; index = n } ≡ tallied t line
 unfolding tallied
 add-group t line n e = sym (ap (tallied t) e)
 
@@ -35,30 +35,29 @@ pub add-skipped : (t : Tally) (line : Line) → line ≡ Line.Skipped → t ≡ 
 unfolding tallied
 add-skipped t line e = sym (ap (tallied t) e)
 
-pub add-other : (t : Tally) (line : Line) → line ≡ Line.Other → record { refusal = 14; defined = t .defined; corners = t .corners; polygons = t .polygons } ≡ tallied t line
+pub add-other : (t r : Tally) (line : Line) → line ≡ Line.Other → r ≡ refusing t 14 → r ≡ tallied t line
 unfolding tallied
-add-other t line e = sym (ap (tallied t) e)
+add-other t r line e k = k ∙ sym (ap (tallied t) e)
 
 face-refused : (t : Tally) (c : Corners) → t .defined < c .largest
-    → tallied t (Line.Face c) ≡ record { refusal = 15; defined = t .defined; corners = t .corners; polygons = t .polygons }
+    → tallied t (Line.Face c) ≡ refusing t 15
 unfolding tallied
 face-refused t c h = rw (lt-leb (c .largest) (t .defined) h)
 
 face-counted : (t : Tally) (c : Corners) → c .largest ≤ t .defined
-    → tallied t (Line.Face c) ≡ record { refusal = t .refusal; defined = t .defined; corners = min (t .corners + c .count) 16385; polygons = min (t .polygons + 1) 4097 }
+    → tallied t (Line.Face c) ≡ record { refusal = t .refusal; defined = t .defined; corners = min (t .corners + c .count) 16385; polygons = min (t .polygons + 1) 4097; index = t .index }
 unfolding tallied
 face-counted t c h = rw (le-leb (c .largest) (t .defined) h)
 
-pub add-refused : (t : Tally) (line : Line) (c : Corners) → line ≡ Line.Face c → t .defined < c .largest
-    → record { refusal = 15; defined = t .defined; corners = t .corners; polygons = t .polygons } ≡ tallied t line
-add-refused t line c e h = sym (ap (tallied t) e ∙ face-refused t c h)
+pub add-refused : (t r : Tally) (line : Line) (c : Corners) → line ≡ Line.Face c → t .defined < c .largest → r ≡ refusing t 15 → r ≡ tallied t line
+add-refused t r line c e h k = k ∙ sym (ap (tallied t) e ∙ face-refused t c h)
 
 pub add-face : (t : Tally) (line : Line) (c : Corners) (a b : ℕ) → line ≡ Line.Face c → c .largest ≤ t .defined → a ≡ min (t .corners + c .count) 16385 → b ≡ min (t .polygons + 1) 4097
-    → record { refusal = t .refusal; defined = t .defined; corners = a; polygons = b } ≡ tallied t line
+    → record { refusal = t .refusal; defined = t .defined; corners = a; polygons = b; index = t .index } ≡ tallied t line
 add-face t line c a b e h p q = same a b (min (t .corners + c .count) 16385) (min (t .polygons + 1) 4097) p q ∙ sym (ap (tallied t) e ∙ face-counted t c h)
   where
     same : (a b x y : ℕ) → a ≡ x → b ≡ y
-        → _≡_ {A = Tally} (record { refusal = t .refusal; defined = t .defined; corners = a; polygons = b }) (record { refusal = t .refusal; defined = t .defined; corners = x; polygons = y })
+        → _≡_ {A = Tally} (record { refusal = t .refusal; defined = t .defined; corners = a; polygons = b; index = t .index }) (record { refusal = t .refusal; defined = t .defined; corners = x; polygons = y; index = t .index })
     same a b x y p q = rw (p, q)
 
 -- ---- what one line can add
@@ -78,8 +77,8 @@ module _ (t : Tally) (C : t .corners ≤ 16385) (P : t .polygons ≤ 4097) where
     where
       go : (b : Bool)
           → Grown t
-          (cond b (record { refusal = t .refusal; defined = t .defined; corners = min (t .corners + c .count) 16385; polygons = min (t .polygons + 1) 4097 })
-          (record { refusal = 15; defined = t .defined; corners = t .corners; polygons = t .polygons }))
+          (cond b (record { refusal = t .refusal; defined = t .defined; corners = min (t .corners + c .count) 16385; polygons = min (t .polygons + 1) 4097; index = t .index })
+          (refusing t 15))
       go true = record { defined-to = omega arith; corners-to = omega arith; polygons-to = omega arith }
       go false = grown-same _ (omega arith) refl refl
   grown (Line.Group n) = grown-same _ (omega arith) refl refl
@@ -140,13 +139,13 @@ face-stops n ns fs h = rw (lt-leb (largest ns) n h)
 
 -- the tally after a face of so many corners
 abbrev counted : Tally → ℕ → Tally
-counted t n = record { refusal = t .refusal; defined = t .defined; corners = min (t .corners + n) 16385; polygons = min (t .polygons + 1) 4097 }
+counted t n = record { refusal = t .refusal; defined = t .defined; corners = min (t .corners + n) 16385; polygons = min (t .polygons + 1) 4097; index = t .index }
 
 outcome : (fs : List Form) (t : Tally) (i : ℕ) → t .refusal ≡ 0 → t .defined + length fs ≤ 2 ^ 63 → t .corners ≤ 16385 → t .polygons ≤ 4097 → Outcome t i fs (tallyFrom t fs)
 unfolding tallyFrom refusalFrom facesFrom cornersFrom lineOf tallied
 outcome [] t i z d C P = record { refusal = z; corners = λ e. omega arith; polygons = λ e. omega arith }
 outcome (vertex v ∷ fs) t i z d C P =
-    let r : Tally = record { refusal = t .refusal; defined = t .defined + 1; corners = t .corners; polygons = t .polygons } in
+    let r : Tally = record { refusal = t .refusal; defined = t .defined + 1; corners = t .corners; polygons = t .polygons; index = t .index } in
     let o = outcome fs r i z (omega arith) C P in
     subst (λ (x : Tally). Outcome t i (vertex v ∷ fs) x) (tally-more t r (Line.Vertex v) (vertex v) fs refl refl z)
     record { refusal = o .refusal; corners = o .corners; polygons = o .polygons }
@@ -169,7 +168,7 @@ outcome (face ns ∷ fs) t i z d C P = go (decLe (largest ns) (t .defined)) (out
     go (no h) o =
         let more : t .defined < largest ns = omega (arith, h) in
         let k : refusalFrom (t .defined) (face ns ∷ fs) ≡ 15 = face-stops (t .defined) ns fs more in
-        let r : Tally = record { refusal = 15; defined = t .defined; corners = t .corners; polygons = t .polygons } in
+        let r : Tally = refusing t 15 in
         subst (λ (x : Tally). Outcome t i (face ns ∷ fs) x)
         (tally-stop t r (Line.Face c) (face ns) fs refl (sym (face-refused t c (capped-gt (largest ns) (t .defined) (omega arith) more))) (λ (e : _≡_ {A = ℕ} 15 0). omega arith))
         record {
@@ -178,21 +177,27 @@ outcome (face ns ∷ fs) t i z d C P = go (decLe (largest ns) (t .defined)) (out
           polygons = λ e. never-zero 15 (omega arith) (sym k ∙ e);
         }
 outcome (group j ∷ fs) t i z d C P =
-    let o = outcome fs t j z (omega arith) C P in
-    subst (λ (x : Tally). Outcome t i (group j ∷ fs) x) (tally-more t t (Line.Group j) (group j) fs refl refl z)
+    let r : Tally = record { refusal = t .refusal; defined = t .defined; corners = t .corners; polygons = t .polygons; index = j } in
+    let o = outcome fs r j z (omega arith) C P in
+    subst (λ (x : Tally). Outcome t i (group j ∷ fs) x) (tally-more t r (Line.Group j) (group j) fs refl refl z)
     record { refusal = o .refusal; corners = o .corners; polygons = o .polygons }
 outcome (skipped ∷ fs) t i z d C P =
     let o = outcome fs t i z (omega arith) C P in
     subst (λ (x : Tally). Outcome t i (skipped ∷ fs) x) (tally-more t t Line.Skipped skipped fs refl refl z)
     record { refusal = o .refusal; corners = o .corners; polygons = o .polygons }
 outcome (other ∷ fs) t i z d C P =
-    let r : Tally = record { refusal = 14; defined = t .defined; corners = t .corners; polygons = t .polygons } in
+    let r : Tally = refusing t 14 in
     subst (λ (x : Tally). Outcome t i (other ∷ fs) x) (tally-stop t r Line.Other other fs refl refl (λ (e : _≡_ {A = ℕ} 14 0). omega arith))
     record { refusal = refl; corners = λ (e : _≡_ {A = ℕ} 14 0). never-zero 14 (omega arith) e; polygons = λ (e : _≡_ {A = ℕ} 14 0). never-zero 14 (omega arith) e }
 
-pub judged : (text : List ℕ) (r : Tally) → length text < 2 ^ 63 → r ≡ tallyFrom start (formsOf text) → Judged text r
+pub record Told (text : List ℕ) (t : Tally) : Type 0 where
+  pub refusal : t .refusal ≡ lineRefusal text
+  pub corners : lineRefusal text ≡ 0 → t .corners ≡ min (length (cornersOf text)) 16385
+  pub polygons : lineRefusal text ≡ 0 → t .polygons ≡ min (length (facesOf text)) 4097
+
+pub told : (text : List ℕ) (r : Tally) → length text < 2 ^ 63 → r ≡ tallyFrom start (formsOf text) → Told text r
 unfolding start lineRefusal facesOf cornersOf
-judged text r h e =
+told text r h e =
     let bound : 0 + length (formsOf text) ≤ 2 ^ 63 = omega (arith, forms-length text) in
     let o = outcome (formsOf text) start 0 refl bound (omega arith) (omega arith) in
     let n = length (cornersFrom (facesFrom 0 (formsOf text))) in

@@ -1,65 +1,59 @@
--- `obj::write::put_corners` meets its contract.
+-- `obj::write::put_corners` meets its contract: from the tables, or by a second pass.
 use borrow.Author.Needs.{needs}
-use lib.ListN.{length-replicate}
-use lib.Ieee.{binary64, ofBits}
-use Rattle.num_text.proofs.PutLaws.{put-length}
-use Rattle.obj.proofs.WriteLaws.{put-block}
+use denote.Ref.{now}
+use Rattle.obj.proofs.WriteLaws.{named-within, put-named}
 use Rattle.obj.proofs.write.put_corners.Statement.{statement}
 use Rattle.obj.proofs.write.put_corners.Tie as tie
 
-slice-aggregate-fill : tie.Need-slice-aggregate-fill
-slice-aggregate-fill c = search needs
-
-slice-aggregate-fill-2 : tie.Need-slice-aggregate-fill-2
-slice-aggregate-fill-2 c = search needs
-
-slice-aggregate-fill-3 : tie.Need-slice-aggregate-fill-3
-slice-aggregate-fill-3 c = search needs
-
-slice-aggregate-fill-4 : tie.Need-slice-aggregate-fill-4
-slice-aggregate-fill-4 c = search needs
-
-slice-aggregate-fill-5 : tie.Need-slice-aggregate-fill-5
-slice-aggregate-fill-5 c = search needs
-
-slice-aggregate-fill-6 : tie.Need-slice-aggregate-fill-6
-slice-aggregate-fill-6 c = search needs
-
-fill-requires : tie.Need-fill-requires
-fill-requires c κs = (c .before .before .before .before .before .before .before .before .before .pre .0, (c .before .before .before .before .before .before .before .before .before .pre .1 .0, (record { xs-long = length-replicate 16384 (ofBits binary64 0); ys-long = length-replicate 16384 (ofBits binary64 0); zs-long = length-replicate 16384 (ofBits binary64 0); cx-long = length-replicate 16384 (ofBits binary64 0); cy-long = length-replicate 16384 (ofBits binary64 0); cz-long = length-replicate 16384 (ofBits binary64 0) }, c .before .before .before .before .before .before .before .before .before .pre .1 .1 .1)))
-
-slice-aggregate-put-vertices : tie.Need-slice-aggregate-put-vertices
-slice-aggregate-put-vertices c = search needs
-
-slice-aggregate-put-vertices-2 : tie.Need-slice-aggregate-put-vertices-2
-slice-aggregate-put-vertices-2 c = search needs
-
-slice-aggregate-put-vertices-3 : tie.Need-slice-aggregate-put-vertices-3
-slice-aggregate-put-vertices-3 c = search needs
-
-put-vertices-requires : tie.Need-put-vertices-requires
-put-vertices-requires c κs = search needs
+put-by-windows-requires : tie.Need-put-by-windows-requires
+put-by-windows-requires c κs = (c .before .before .before .before .before .before .before .before .before .before .before .before .pre .1 .held, (c .before .before .before .before .before .before .before .before .before .before .before .before .pre .1 .most, (c .before .before .before .before .before .before .before .before .before .before .before .before .pre .1 .named, (c .before .before .before .before .before .before .before .before .before .before .before .before .pre .0, c .before .before .before .before .before .before .before .before .before .before .before .before .pre .1 .slots))))
 
 same-length : tie.Need-same-length
-same-length c = put-length _ (c .before .before .put-vertices .ensures)
+same-length c = search needs
+
+same-length-2 : tie.Need-same-length-2
+same-length-2 c = search needs
+
+same-length-3 : tie.Need-same-length-3
+same-length-3 c = search needs
+
+same-length-4 : tie.Need-same-length-4
+same-length-4 c = search needs
 
 returns : tie.Need-returns
-returns c = put-block (c .before .before .before .before .before .before .before .before .before .before .before .before .before .before .before .before .before .before .before .before .before .before .before .args .text .now) (c .before .before .before .before .before .before .before .before .before .before .before .before .before .before .before .before .before .before .before .before .before .before .before .args .numbers .now) _ _ _ (c .before .before .before .before .before .before .before .before .before .before .before .before .before .before .before .before .before .before .before .before .before .before .before .args .used) (c .before .before .before .before .before .before .before .before .before .before .before .before .before .before .before .before .before .before .before .before .before .before .before .pre .0) (c .before .before .before .before .before .before .before .before .before .before .before .before .before .before .before .before .before .before .before .before .before .before .before .pre .1 .1 .0) (c .before .before .before .before .before .before .before .before .before .before .before .before .before .fill .ensures) (c .before .before .put-vertices .ensures)
+returns c = c .before .before .before .before .before .before .before .before .put-by-windows .ensures
+
+put-by-number-requires : tie.Need-put-by-number-requires
+put-by-number-requires c κs = (c .before .before .before .before .before .before .before .before .before .before .before .before .pre .1 .held, (c .before .before .before .before .before .before .before .before .before .before .before .before .pre .1 .slots, named-within (c .before .before .before .before .before .before .before .before .before .before .before .before .args .text .now) (c .before .before .before .before .before .before .before .before .before .before .before .before .args .numbers .now) _ _ (now (c .before .before .before .before .before .before .before .before .before .before .before .before .args .xs)) (now (c .before .before .before .before .before .before .before .before .before .before .before .before .args .ys)) (now (c .before .before .before .before .before .before .before .before .before .before .before .before .args .zs)) (c .before .before .before .before .before .before .before .before .before .before .before .before .pre .1 .named) (c .before .before .before .before .before .before .before .before .before .before .before .before .pre .1 .rows) (c .before .before .before .before .if1 .left)))
+
+same-length-5 : tie.Need-same-length-5
+same-length-5 c = search needs
+
+same-length-6 : tie.Need-same-length-6
+same-length-6 c = search needs
+
+same-length-7 : tie.Need-same-length-7
+same-length-7 c = search needs
+
+same-length-8 : tie.Need-same-length-8
+same-length-8 c = search needs
+
+returns-2 : tie.Need-returns-2
+returns-2 c = put-named (c .before .before .before .before .before .before .before .before .before .before .before .before .before .before .before .args .text .now) (c .before .before .before .before .before .before .before .before .before .before .before .before .before .before .before .args .numbers .now) _ _ _ _ _ (c .before .before .before .before .before .before .before .before .before .before .before .before .before .before .before .pre .1 .held) (c .before .before .before .before .before .before .before .before .before .before .before .before .before .before .before .pre .1 .named) (c .before .before .before .before .before .before .before .before .before .before .before .before .before .before .before .pre .1 .rows) (c .before .before .before .before .before .before .before .if1 .left) (c .before .before .put-by-number .ensures)
 
 pub put-corners-spec : {M : Type 1} → statement M
 put-corners-spec =
     tie.close
     (tie.spec
-    slice-aggregate-fill
-    slice-aggregate-fill-2
-    slice-aggregate-fill-3
-    slice-aggregate-fill-4
-    slice-aggregate-fill-5
-    slice-aggregate-fill-6
-    fill-requires
-    slice-aggregate-put-vertices
-    slice-aggregate-put-vertices-2
-    slice-aggregate-put-vertices-3
-    put-vertices-requires
+    put-by-windows-requires
     same-length
-    returns)
+    same-length-2
+    same-length-3
+    same-length-4
+    returns
+    put-by-number-requires
+    same-length-5
+    same-length-6
+    same-length-7
+    same-length-8
+    returns-2)

@@ -6,7 +6,7 @@ use denote.Ref.{now}
 use lib.ListN.{length}
 use Rattle.num_text.specs.Put.{Put}
 use Rattle.num_text.proofs.PutLaws.{put-length}
-use Rattle.obj_passes.specs.Passes.{rowAt}
+use Rattle.obj_windows.specs.Filled.{rowAt}
 use Rattle.obj.specs.Work.{rowsTo}
 use Rattle.obj.proofs.WriteLaws.{rows-none, rows-more}
 use native.Mathlib.Omega.{arith}
@@ -14,13 +14,13 @@ use Rattle.obj.proofs.write.put_vertices.Statement.{statement}
 use Rattle.obj.proofs.write.put_vertices.Tie as tie
 
 abbrev Inv-loop : tie.InvT-loop
-Inv-loop out₀ used xs ys zs at₀ c₀ out at c = (c ≤ used) × (length out ≡ length out₀) × Put out₀ 0 (rowsTo xs ys zs c) out at
+Inv-loop out₀ used xs ys zs at₀ c₀ out at c = (c ≤ used) × (length out ≡ length out₀) × Put out₀ 0 (rowsTo (rowAt xs ys zs) c) out at
 
 abbrev μ-loop : tie.MeasureT-loop
 μ-loop out₀ used xs ys zs at₀ c₀ out at c = used - c
 
 loop-holds : tie.Need-loop-holds Inv-loop μ-loop
-loop-holds c = (omega arith, refl, rows-none _ _ _ _ (omega arith))
+loop-holds c = (omega arith, refl, rows-none _ _ (omega arith))
 
 mul-x : tie.Need-mul-x Inv-loop μ-loop
 mul-x c = omega arith
@@ -51,13 +51,13 @@ loop-less c = omega arith
 
 loop-again : tie.Need-loop-again Inv-loop μ-loop
 unfolding rowAt
-loop-again c = (omega arith, put-length _ (c .before .before .put-vec .ensures) ∙ c .before .before .before .before .before .before .before .before .loop .inv .1, rows-more _ _ _ (c .before .before .before .before .before .before .before .before .loop .c) (c .before .before .before .before .before .before .before .before .loop .inv .2) (c .before .before .put-vec .ensures))
+loop-again c = (omega arith, put-length _ (c .before .before .put-vec .ensures) ∙ c .before .before .before .before .before .before .before .before .loop .inv .1, rows-more (rowAt (c .before .before .before .before .before .before .before .before .before .before .before .before .before .args .xs .now) (c .before .before .before .before .before .before .before .before .before .before .before .before .before .args .ys .now) (c .before .before .before .before .before .before .before .before .before .before .before .before .before .args .zs .now)) (c .before .before .before .before .before .before .before .before .loop .c) (c .before .before .before .before .before .before .before .before .loop .inv .2) (c .before .before .put-vec .ensures))
 
 same-length : tie.Need-same-length Inv-loop μ-loop
 same-length c = c .before .loop .inv .1
 
 returns : tie.Need-returns Inv-loop μ-loop
-returns c = subst (λ (k : ℕ). Put (now (c .before .before .before .before .before .before .args .out)) 0 (rowsTo (c .before .before .before .before .before .before .args .xs .now) (c .before .before .before .before .before .before .args .ys .now) (c .before .before .before .before .before .before .args .zs .now) k) (c .before .loop .out) (c .before .loop .at)) (omega arith) (c .before .loop .inv .2)
+returns c = subst (λ (k : ℕ). Put (now (c .before .before .before .before .before .before .args .out)) 0 (rowsTo (rowAt (c .before .before .before .before .before .before .args .xs .now) (c .before .before .before .before .before .before .args .ys .now) (c .before .before .before .before .before .before .args .zs .now)) k) (c .before .loop .out) (c .before .loop .at)) (omega arith) (c .before .loop .inv .2)
 
 pub put-vertices-spec : {M : Type 1} → statement M
 put-vertices-spec =

@@ -1,59 +1,48 @@
--- `obj::write::write` meets its contract: the polygons were written first, behind the place of the vertices.
+-- `obj::write::write` meets its contract: one part after the other.
 use borrow.Author.Needs.{needs}
-use mathlib.Core.Path.{refl, sym, ap, _∙_, subst}
-use Prim.Native.Nat.{ℕ}
+use mathlib.Core.Path.{_∙_}
 use denote.Ref.{now}
-use lib.ListN.{length, take, replicate, length-replicate}
-use Rattle.num_text.proofs.PutLaws.{put-same, put-length}
-use Rattle.obj_part.specs.File.{vertexBlock}
-use Rattle.obj.specs.Work.{Numbers}
+use lib.ListN.{length}
+use Rattle.num_text.proofs.PutLaws.{put-length}
 use Rattle.obj.proofs.ConvertLaws.{accepted}
-use Rattle.obj.proofs.WriteLaws.{table, next-most, over-length, written}
+use Rattle.obj.proofs.WriteLaws.{first-small, written}
 use native.Mathlib.Omega.{arith}
 use Rattle.obj.proofs.write.write.Statement.{statement}
 use Rattle.obj.proofs.write.write.Tie as tie
 
-slice-aggregate-collect : tie.Need-slice-aggregate-collect
-slice-aggregate-collect c = search needs
-
-mul-collect : tie.Need-mul-collect
-mul-collect c = let a = accepted (c .before .before .before .before .before .args .text .now) (length (c .before .before .before .before .before .args .job .now)) (length (now (c .before .before .before .before .before .args .out))) (c .before .before .before .before .before .pre .0) in omega (arith, a .corners-most, c .before .before .before .before .before .pre .1 .0)
-
-collect-requires : tie.Need-collect-requires
-collect-requires c κs = let a = accepted (c .before .before .before .before .before .args .text .now) (length (c .before .before .before .before .before .args .job .now)) (length (now (c .before .before .before .before .before .args .out))) (c .before .before .before .before .before .pre .0) in (a .lines, (a .corners-most, (length-replicate {A = ℕ} 16384 0, omega (arith, a .corners-most, a .faces-most, c .before .before .before .before .before .pre .1 .0))))
-
-slice-aggregate-put-corners : tie.Need-slice-aggregate-put-corners
-slice-aggregate-put-corners c = search needs
-
 put-corners-requires : tie.Need-put-corners-requires
-put-corners-requires c κs = let a = accepted (c .before .before .before .before .before .before .before .before .before .before .before .args .text .now) (length (c .before .before .before .before .before .before .before .before .before .before .before .args .job .now)) (length (now (c .before .before .before .before .before .before .before .before .before .before .before .args .out))) (c .before .before .before .before .before .before .before .before .before .before .before .pre .0) in let t = table (c .before .before .before .before .before .before .before .before .before .before .before .args .text .now) (replicate {A = ℕ} 16384 0) _ (omega arith) (a .lines) (a .corners-most) (length-replicate {A = ℕ} 16384 0) (c .before .before .before .before .before .collect .ensures .numbers-all) in (omega (arith, t .long, a .corners-most, c .before .before .before .before .before .before .before .before .before .before .before .pre .1 .0), (omega (arith, a .corners-most, c .before .before .before .before .before .before .before .before .before .before .before .pre .1 .0), (subst (λ (k : ℕ). Numbers (c .before .before .before .before .before .before .before .before .before .before .before .args .text .now) (c .before .before .before .before .before .collect .last .1 .0) k) (sym (c .before .before .before .before .before .before .before .before .before .before .before .pre .1 .0)) (t .numbered), a .lines)))
+put-corners-requires c κs = let a = accepted (c .before .before .before .before .before .before .before .before .before .before .before .before .before .args .text .now) (length (c .before .before .before .before .before .before .before .before .before .before .before .before .before .args .job .now)) (length (now (c .before .before .before .before .before .before .before .before .before .before .before .before .before .args .out))) (c .before .before .before .before .before .before .before .before .before .before .before .before .before .pre .0) in let r = c .before .before .before .before .before .before .before .before .before .before .before .before .before .pre .1 in (a .lines, record { held = omega (arith, a .corners-most, r .corners-are, r .sized .numbers-long); most = omega (arith, a .corners-most, r .corners-are); named = r .named; slots = r .sized .slots; rows = r .rows })
 
-mul-put-end : tie.Need-mul-put-end
-mul-put-end c = let a = accepted (c .before .before .before .before .before .before .before .before .before .before .before .before .before .before .before .args .text .now) (length (c .before .before .before .before .before .before .before .before .before .before .before .before .before .before .before .args .job .now)) (length (now (c .before .before .before .before .before .before .before .before .before .before .before .before .before .before .before .args .out))) (c .before .before .before .before .before .before .before .before .before .before .before .before .before .before .before .pre .0) in omega (arith, a .faces-most, c .before .before .before .before .before .before .before .before .before .before .before .before .before .before .before .pre .1 .1)
-
-add-put-end : tie.Need-add-put-end
-add-put-end c = let a = accepted (c .before .before .before .before .before .before .before .before .before .before .before .before .before .before .before .args .text .now) (length (c .before .before .before .before .before .before .before .before .before .before .before .before .before .before .before .args .job .now)) (length (now (c .before .before .before .before .before .before .before .before .before .before .before .before .before .before .before .args .out))) (c .before .before .before .before .before .before .before .before .before .before .before .before .before .before .before .pre .0) in let t = table (c .before .before .before .before .before .before .before .before .before .before .before .before .before .before .before .args .text .now) (replicate {A = ℕ} 16384 0) _ (omega arith) (a .lines) (a .corners-most) (length-replicate {A = ℕ} 16384 0) (c .before .before .before .before .before .before .before .before .before .collect .ensures .numbers-all) in omega (arith, a .faces-most, c .before .before .before .before .before .before .before .before .before .before .before .before .before .before .before .pre .1 .1, next-most (c .before .before .before .before .before .before .before .before .before .before .before .before .before .before .before .args .text .now) _ (c .before .before .before .before .before .before .before .before .before .before .before .before .before .before .before .args .vertices) (omega (arith, a .corners-most, c .before .before .before .before .before .before .before .before .before .before .before .before .before .before .before .pre .1 .0)) (omega (arith, t .long, a .corners-most, c .before .before .before .before .before .before .before .before .before .before .before .before .before .before .before .pre .1 .0)) (c .before .before .before .put-corners .ensures))
+put-polygons-requires : tie.Need-put-polygons-requires
+put-polygons-requires c κs = let a = accepted (c .before .before .before .before .before .before .before .before .before .before .before .before .before .before .before .before .before .before .before .before .before .before .before .args .text .now) (length (c .before .before .before .before .before .before .before .before .before .before .before .before .before .before .before .before .before .before .before .before .before .before .before .args .job .now)) (length (now (c .before .before .before .before .before .before .before .before .before .before .before .before .before .before .before .before .before .before .before .before .before .before .before .args .out))) (c .before .before .before .before .before .before .before .before .before .before .before .before .before .before .before .before .before .before .before .before .before .before .before .pre .0) in let r = c .before .before .before .before .before .before .before .before .before .before .before .before .before .before .before .before .before .before .before .before .before .before .before .pre .1 in (omega (arith, a .faces-most, r .polygons-are, r .sized .indices-long), (omega (arith, a .faces-most, r .polygons-are, r .sized .counts-long), first-small r (a .corners-most)))
 
 put-end-requires : tie.Need-put-end-requires
-put-end-requires c κs = let a = accepted (c .before .before .before .before .before .before .before .before .before .before .before .before .before .before .before .args .text .now) (length (c .before .before .before .before .before .before .before .before .before .before .before .before .before .before .before .args .job .now)) (length (now (c .before .before .before .before .before .before .before .before .before .before .before .before .before .before .before .args .out))) (c .before .before .before .before .before .before .before .before .before .before .before .before .before .before .before .pre .0) in (omega (arith, a .corners-most, c .before .before .before .before .before .before .before .before .before .before .before .before .before .before .before .pre .1 .0), omega (arith, a .faces-most, c .before .before .before .before .before .before .before .before .before .before .before .before .before .before .before .pre .1 .1))
+put-end-requires c κs = let a = accepted (c .before .before .before .before .before .before .before .before .before .before .before .before .before .before .before .before .before .before .before .before .before .before .before .before .before .before .before .args .text .now) (length (c .before .before .before .before .before .before .before .before .before .before .before .before .before .before .before .before .before .before .before .before .before .before .before .before .before .before .before .args .job .now)) (length (now (c .before .before .before .before .before .before .before .before .before .before .before .before .before .before .before .before .before .before .before .before .before .before .before .before .before .before .before .args .out))) (c .before .before .before .before .before .before .before .before .before .before .before .before .before .before .before .before .before .before .before .before .before .before .before .before .before .before .before .pre .0) in let r = c .before .before .before .before .before .before .before .before .before .before .before .before .before .before .before .before .before .before .before .before .before .before .before .before .before .before .before .pre .1 in (omega (arith, a .corners-most, r .corners-are), omega (arith, a .faces-most, r .polygons-are))
 
 same-length : tie.Need-same-length
-same-length c = put-length _ (c .before .before .put-end .ensures) ∙ put-length _ (c .before .before .before .before .before .before .put-corners .ensures) ∙ over-length _ _ _ _ (c .before .before .before .before .before .before .before .before .before .before .before .before .collect .ensures .polygons-all)
+same-length c = put-length _ (c .before .before .put-end .ensures) ∙ put-length _ (c .before .before .before .before .before .before .put-polygons .ensures) ∙ put-length _ (c .before .before .before .before .before .before .before .before .before .before .before .before .before .before .before .before .put-corners .ensures)
+
+same-length-2 : tie.Need-same-length-2
+same-length-2 c = search needs
+
+same-length-3 : tie.Need-same-length-3
+same-length-3 c = search needs
+
+same-length-4 : tie.Need-same-length-4
+same-length-4 c = search needs
 
 returns : tie.Need-returns
-returns c = let a = accepted (c .before .before .before .before .before .before .before .before .before .before .before .before .before .before .before .before .before .before .args .text .now) (length (c .before .before .before .before .before .before .before .before .before .before .before .before .before .before .before .before .before .before .args .job .now)) (length (now (c .before .before .before .before .before .before .before .before .before .before .before .before .before .before .before .before .before .before .args .out))) (c .before .before .before .before .before .before .before .before .before .before .before .before .before .before .before .before .before .before .pre .0) in let t = table (c .before .before .before .before .before .before .before .before .before .before .before .before .before .before .before .before .before .before .args .text .now) (replicate {A = ℕ} 16384 0) _ (omega arith) (a .lines) (a .corners-most) (length-replicate {A = ℕ} 16384 0) (c .before .before .before .before .before .before .before .before .before .before .before .before .collect .ensures .numbers-all) in written (c .before .before .before .before .before .before .before .before .before .before .before .before .before .before .before .before .before .before .args .text .now) (c .before .before .before .before .before .before .before .before .before .before .before .before .before .before .before .before .before .before .args .job .now) (now (c .before .before .before .before .before .before .before .before .before .before .before .before .before .before .before .before .before .before .args .out)) _ _ _ (c .before .before .before .before .before .before .before .before .before .before .before .before .before .before .before .before .before .before .args .vertices) (c .before .before .before .before .before .before .before .before .before .before .before .before .before .before .before .before .before .before .args .polygons) _ _ _ (a .room-enough) (a .job-long) (omega arith) (c .before .before .before .before .before .before .before .before .before .before .before .before .before .before .before .before .before .before .pre .1 .0) (c .before .before .before .before .before .before .before .before .before .before .before .before .before .before .before .before .before .before .pre .1 .1) (c .before .before .before .before .before .before .before .before .before .before .before .before .collect .ensures .polygons-all) (put-same _ _ (ap (vertexBlock (c .before .before .before .before .before .before .before .before .before .before .before .before .before .before .before .before .before .before .args .text .now)) (ap (λ (k : ℕ). take k (c .before .before .before .before .before .before .before .before .before .before .before .before .collect .last .1 .0)) (c .before .before .before .before .before .before .before .before .before .before .before .before .before .before .before .before .before .before .pre .1 .0) ∙ t .first)) (c .before .before .before .before .before .before .put-corners .ensures)) refl (c .before .before .put-end .ensures)
+returns c = written (c .before .before .before .before .before .before .before .before .before .before .before .before .before .before .before .before .before .before .before .before .before .before .before .before .before .before .before .before .before .before .args .text .now) (c .before .before .before .before .before .before .before .before .before .before .before .before .before .before .before .before .before .before .before .before .before .before .before .before .before .before .before .before .before .before .args .job .now) _ _ _ _ (c .before .before .before .before .before .before .before .before .before .before .before .before .before .before .before .before .before .before .before .before .before .before .before .before .before .before .before .before .before .before .args .t) _ _ _ _ (accepted (c .before .before .before .before .before .before .before .before .before .before .before .before .before .before .before .before .before .before .before .before .before .before .before .before .before .before .before .before .before .before .args .text .now) (length (c .before .before .before .before .before .before .before .before .before .before .before .before .before .before .before .before .before .before .before .before .before .before .before .before .before .before .before .before .before .before .args .job .now)) (length (now (c .before .before .before .before .before .before .before .before .before .before .before .before .before .before .before .before .before .before .before .before .before .before .before .before .before .before .before .before .before .before .args .out))) (c .before .before .before .before .before .before .before .before .before .before .before .before .before .before .before .before .before .before .before .before .before .before .before .before .before .before .before .before .before .before .pre .0)) (c .before .before .before .before .before .before .before .before .before .before .before .before .before .before .before .before .before .before .before .before .before .before .before .before .before .before .before .before .before .before .pre .1) (c .before .before .before .before .before .before .before .before .before .before .before .before .before .before .before .before .put-corners .ensures) (c .before .before .before .before .before .before .put-polygons .ensures) (c .before .before .put-end .ensures)
 
 pub write-spec : {M : Type 1} → statement M
 write-spec =
     tie.close
     (tie.spec
-    slice-aggregate-collect
-    mul-collect
-    collect-requires
-    slice-aggregate-put-corners
     put-corners-requires
-    mul-put-end
-    add-put-end
+    put-polygons-requires
     put-end-requires
     same-length
+    same-length-2
+    same-length-3
+    same-length-4
     returns)

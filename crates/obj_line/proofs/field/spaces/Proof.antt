@@ -1,5 +1,4 @@
 -- `obj_line::field::spaces` meets its contract: the spaces passed and those of the rest make up the whole.
-use borrow.Author.Needs.{needs}
 use mathlib.Core.Path.{_≡_}
 use Prim.Native.Nat.{_≤_, _+_, _-_}
 use lib.ListN.{length, drop}

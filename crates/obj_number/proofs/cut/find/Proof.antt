@@ -2,7 +2,7 @@
 use borrow.Author.Needs.{needs}
 use Prim.Native.Nat.{_-_}
 use lib.ListN.{length}
-use Rattle.obj_number.specs.Cut.{NoneTo}
+use Rattle.obj_number.specs.Work.{NoneTo}
 use Rattle.obj_number.proofs.CutLaws.{none-here, none-more, none-end}
 use native.Mathlib.Omega.{arith}
 use Rattle.obj_number.proofs.cut.find.Statement.{statement}

@@ -1,10 +1,9 @@
 -- `obj_number::cut::find_by_four` meets its contract: four bytes at a time.
-use borrow.Author.Needs.{needs}
 use mathlib.Core.Path.{_≡_, subst}
 use mathlib.Core.List.{List}
 use Prim.Native.Nat.{ℕ, _+_, _-_, _<_}
 use lib.ListN.{length, getD}
-use Rattle.obj_number.specs.Cut.{NoneTo}
+use Rattle.obj_number.specs.Work.{NoneTo}
 use Rattle.obj_number.proofs.CutLaws.{none-start, none-more}
 use native.Mathlib.Omega.{arith}
 use Rattle.obj_number.proofs.cut.find_by_four.Statement.{statement}

@@ -1,5 +1,4 @@
 -- `obj_number::decimal::sign_length` meets its contract.
-use borrow.Author.Needs.{needs}
 use borrow.Author.Tests.{eq-eqb, ne-eqb}
 use Rattle.obj_number.specs.Decimal.{isSign}
 use Rattle.obj_number.proofs.decimal.sign_length.Statement.{statement}

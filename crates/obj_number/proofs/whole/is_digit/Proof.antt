@@ -1,5 +1,4 @@
 -- `obj_number::whole::is_digit` meets its contract.
-use borrow.Author.Needs.{needs}
 use borrow.Author.Tests.{le-leb, lt-leb}
 use Rattle.obj_number.specs.Whole.{isDigit}
 use Rattle.obj_number.proofs.whole.is_digit.Statement.{statement}

@@ -1,3 +1,0 @@
-// Tables between the passes over OBJ text.
-pub mod push;
-pub mod window;

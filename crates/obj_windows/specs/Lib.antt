@@ -1,0 +1,3 @@
+-- What the second pass over OBJ text leaves.
+pub mod Filled
+pub mod Work
