@@ -1,5 +1,5 @@
 //! Texts drawn line by line: decimals and numbers of every form, faces and face indices anywhere, and now and then a line that is refused.
-use crate::random::Random;
+use common::random::Random;
 
 /// What is written in one text, and how.
 pub struct Draw<'a> {
