@@ -80,7 +80,7 @@ fn own(c: &mut Compare, thread: u64, threads: u64, quick: bool, corner: &[u8]) {
 
 /// A part, a changed copy and a damaged one, by its number alone.
 fn shape(c: &mut Compare, number: u64) {
-    let mut random = Random(Random(50).next() ^ Random(!number).next());
+    let mut random = Random::of(50, number);
     let mesh = parts::draw(&mut random);
     c.check(&mesh.bytes(), || format!("shape {number}"));
     c.check(&parts::changed(&mut random, &mesh).bytes(), || format!("shape {number}, changed"));
@@ -91,7 +91,7 @@ fn shape(c: &mut Compare, number: u64) {
 
 /// A part of thin lengths, by its number alone.
 fn thin_part(c: &mut Compare, number: u64) {
-    let file = thin::draw(&mut Random(Random(53).next() ^ Random(!number).next())).bytes();
+    let file = thin::draw(&mut Random::of(53, number)).bytes();
     if c.check(&file, || format!("thin part {number}")) == 0 {
         thin::count(&mut c.seen, &file);
     }
@@ -114,7 +114,7 @@ fn from_input(c: &mut Compare, files: &Generated) {
     let next = || files.lock().expect("a test thread failed").recv().ok();
     while let Some((number, file)) = next() {
         if c.check(&file, || format!("generated file {number}")) == 0 && file.len() < LARGE {
-            let mut random = Random(Random(52).next() ^ Random(!number).next());
+            let mut random = Random::of(52, number);
             let changed = parts::changed(&mut random, &Mesh::read(&file));
             c.check(&changed.bytes(), || format!("generated file {number}, changed"));
         }

@@ -63,6 +63,7 @@ pub struct Blocks {
 
 impl Blocks {
     /// None where the counts of the trailer do not fit the length.
+    #[inline]
     pub fn of(file: &[u8]) -> Option<Blocks> {
         let n = file.len();
         if n < 144 {
@@ -72,10 +73,12 @@ impl Blocks {
         (24 * vertices + 80 * polygons + 144 == n).then_some(Blocks { vertices, polygons })
     }
 
+    #[inline]
     pub fn entry(&self, i: usize) -> usize {
         24 * self.vertices + 80 * i
     }
 
+    #[inline]
     pub fn job(&self) -> usize {
         self.entry(self.polygons)
     }
@@ -113,23 +116,28 @@ impl Blocks {
     }
 }
 
+#[inline]
 pub fn word(file: &[u8], at: usize) -> u32 {
     u32::from_le_bytes(file[at..at + 4].try_into().unwrap())
 }
 
+#[inline]
 pub fn real(file: &[u8], at: usize) -> f64 {
     f64::from_le_bytes(file[at..at + 8].try_into().unwrap())
 }
 
+#[inline]
 pub fn set_word(file: &mut [u8], at: usize, n: u32) {
     file[at..at + 4].copy_from_slice(&n.to_le_bytes());
 }
 
+#[inline]
 pub fn set_real(file: &mut [u8], at: usize, x: f64) {
     set_bits(file, at, x.to_bits());
 }
 
 /// By its bits, since the compiler may take any NaN for any other.
+#[inline]
 pub fn set_bits(file: &mut [u8], at: usize, bits: u64) {
     file[at..at + 8].copy_from_slice(&bits.to_le_bytes());
 }

@@ -2,7 +2,41 @@
 //! Rattle source, so they are few and plain: numbers pass as themselves, a slice as a pointer and a length. A test links the libraries that it calls.
 
 mod c {
+    use super::FaultRow;
+
+    /// A function that takes a part file and scratch, and these.
+    macro_rules! of_file {
+        ($name:ident($($more:ident: $kind:ty),*)) => {
+            extern "C" {
+                pub fn $name(
+                    file: *const u8,
+                    file_len: usize,
+                    words: *mut u32,
+                    words_len: usize,
+                    reals: *mut f64,
+                    reals_len: usize,
+                    $($more: $kind),*
+                ) -> u32;
+            }
+        };
+    }
+
+    of_file!(gablemadder_check(rows: *mut FaultRow, rows_len: usize, report: *mut u8, report_len: usize, written: *mut usize));
+    of_file!(gablemadder_sample_list(faces: *mut u32, faces_len: usize, numbers: *mut f64, numbers_len: usize));
+    of_file!(gablemadder_open_towards(rays: *const f64, rays_len: usize, cells: *mut u32, cells_len: usize));
+    of_file!(gablemadder_put_tree());
+    of_file!(gablemadder_raycast(rays: *const f64, rays_len: usize, polygons: *mut u32, polygons_len: usize, times: *mut f64, times_len: usize));
+
     extern "C" {
+        pub fn gablemadder_obj(
+            text: *const u8,
+            text_len: usize,
+            job: *const u8,
+            job_len: usize,
+            out: *mut u8,
+            out_len: usize,
+            written: *mut usize,
+        ) -> u32;
         pub fn gablemadder_sqrt(x: f64) -> f64;
         pub fn gablemadder_sqrt_bits(b: u64) -> u64;
         pub fn gablemadder_sqrt_each(values: *mut f64, len: usize);
@@ -14,79 +48,11 @@ mod c {
         pub fn gablemadder_sine_entry(tenths: u32) -> u64;
         pub fn gablemadder_sine(tenths: u32) -> f64;
         pub fn gablemadder_decimal(x: f64, places: u32, out: *mut u8, len: usize, written: *mut usize) -> u32;
-        pub fn gablemadder_check(
-            file: *const u8,
-            len: usize,
-            words: *mut u32,
-            words_len: usize,
-            reals: *mut f64,
-            reals_len: usize,
-            rows: *mut super::FaultRow,
-            rows_len: usize,
-            report: *mut u8,
-            report_len: usize,
-            written: *mut usize,
-        ) -> u32;
-        pub fn gablemadder_obj(
-            text: *const u8,
-            text_len: usize,
-            job: *const u8,
-            job_len: usize,
-            out: *mut u8,
-            out_len: usize,
-            written: *mut usize,
-        ) -> u32;
         pub fn gablemadder_put_bytes(out: *mut u8, len: usize, at: usize, s: *const u8, n: usize) -> usize;
         pub fn gablemadder_put_number(out: *mut u8, len: usize, at: usize, n: u64) -> usize;
         pub fn gablemadder_put_hex(out: *mut u8, len: usize, at: usize, bits: u64) -> usize;
         pub fn gablemadder_put_thousandths(out: *mut u8, len: usize, at: usize, n: u64) -> usize;
         pub fn gablemadder_put_decimal(out: *mut u8, len: usize, at: usize, x: f64, places: u32) -> usize;
-        pub fn gablemadder_sample_list(
-            file: *const u8,
-            len: usize,
-            words: *mut u32,
-            words_len: usize,
-            reals: *mut f64,
-            reals_len: usize,
-            faces: *mut u32,
-            faces_len: usize,
-            numbers: *mut f64,
-            numbers_len: usize,
-        ) -> u32;
-        pub fn gablemadder_open_towards(
-            file: *const u8,
-            len: usize,
-            words: *mut u32,
-            words_len: usize,
-            reals: *mut f64,
-            reals_len: usize,
-            rays: *const f64,
-            rays_len: usize,
-            cells: *mut u32,
-            cells_len: usize,
-        ) -> u32;
-        pub fn gablemadder_put_tree(
-            file: *const u8,
-            len: usize,
-            words: *mut u32,
-            words_len: usize,
-            reals: *mut f64,
-            reals_len: usize,
-        ) -> u32;
-        pub fn gablemadder_raycast(
-            file: *const u8,
-            len: usize,
-            words: *mut u32,
-            words_len: usize,
-            reals: *mut f64,
-            reals_len: usize,
-            rays: *const f64,
-            rays_len: usize,
-            polygons: *mut u32,
-            polygons_len: usize,
-            times: *mut f64,
-            times_len: usize,
-        ) -> u32;
     }
 }
 

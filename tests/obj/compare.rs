@@ -1,6 +1,5 @@
 //! One text: the answer, the part file and each lent buffer before and after, beside the plain reader's; and what the check says of the file.
 use crate::back;
-use crate::draw::pick;
 use crate::seen::Seen;
 use common::gablemadder;
 use common::guard::{self, Guarded};
@@ -8,6 +7,7 @@ use common::obj_reader::{self as reader, Part, JOB};
 use common::random::Random;
 use common::sample::{self, GOOD_FLAGS};
 use common::scratch::Scratch;
+use common::shapes::pick;
 use common::tally::Tally;
 
 /// Of longer files one in so many is read back.

@@ -52,17 +52,13 @@ fn share(k: u64, threads: u64, part: u64) -> (Compare, u64) {
         drawn(&mut c, number);
     }
     let texts = (k..OF_DECIMALS / part).step_by(threads as usize);
-    let decimals = texts.map(|number| long::decimals(&mut c, &mut seeded(62, number), number)).sum();
+    let decimals = texts.map(|number| long::decimals(&mut c, &mut Random::of(62, number), number)).sum();
     (c, decimals)
-}
-
-fn seeded(seed: u64, number: u64) -> Random {
-    Random(Random(seed).next() ^ Random(!number).next())
 }
 
 /// A text and two damaged copies, by its number alone.
 fn drawn(c: &mut Compare, number: u64) {
-    let mut random = seeded(63, number);
+    let mut random = Random::of(63, number);
     let text = draw::text(&mut random);
     c.check(&text, || format!("text {number}"));
     for copy in 0..2 {

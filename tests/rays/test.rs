@@ -69,7 +69,7 @@ fn own_shapes(c: &mut Compare, count: u64) {
 /// Parts of 9 to 4,096 polygons, each by its number alone, now and then changed.
 fn for_trees(c: &mut Compare, numbers: std::ops::Range<u64>) {
     for number in numbers {
-        let mut random = Random(Random(18).next() ^ Random(!number).next());
+        let mut random = Random::of(18, number);
         let mesh = trees::draw(&mut random);
         c.check(&mesh.bytes(), || format!("boxes {number}"));
         if random.below(8) == 0 {

@@ -5,10 +5,9 @@ use crate::random::Random;
 pub struct Draw(Random);
 
 impl Draw {
-    /// The source of one file: the two numbers are mixed first, so that neighbours share nothing.
+    /// The source of one file.
     pub fn of(seed: u64, number: u64) -> Draw {
-        let mixed = Random(seed).next() ^ Random(!number).next();
-        Draw(Random(mixed))
+        Draw(Random::of(seed, number))
     }
 
     pub fn bits(&mut self) -> u64 {
