@@ -118,7 +118,7 @@ fn of_the_replayed_files() {
     assert!(tally.well_formed > 10_000 && tally.with_place > 10_000, "{tally}");
 }
 
-/// Of the files that tests/oracle/generate wrote to the file that GABLEMADDER_PARTS names, each after its length.
+/// Of the files that tests/oracle/generate.rs wrote to the file that GABLEMADDER_PARTS names, each after its length.
 #[test]
 #[ignore = "needs generated files: tests/run command"]
 fn of_generated_files() {

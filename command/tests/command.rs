@@ -1,31 +1,16 @@
 //! The command as it is called: what it prints, says and ends with.
+mod common;
+
+use common::{gablemadder, run_on};
 use std::fs::{self, File};
-use std::io::Write;
 use std::path::Path;
 use std::process::{Command, Output, Stdio};
 
 const PLATE: &str = concat!(env!("CARGO_MANIFEST_DIR"), "/../crates/dfm_main/stdin");
 const REPORT: &str = concat!(env!("CARGO_MANIFEST_DIR"), "/../crates/dfm_main/stdout");
 
-fn gablemadder(words: &[&str]) -> Command {
-    let mut command = Command::new(env!("CARGO_BIN_EXE_gablemadder"));
-    command.args(words).stdin(Stdio::null());
-    command
-}
-
 fn run(words: &[&str]) -> Output {
     gablemadder(words).output().unwrap()
-}
-
-/// Runs it with this on standard input, of which it need not read all.
-fn run_on(words: &[&str], input: &[u8]) -> Output {
-    let mut child = gablemadder(words).stdin(Stdio::piped()).stdout(Stdio::piped()).stderr(Stdio::piped()).spawn().unwrap();
-    let mut to = child.stdin.take().unwrap();
-    let input = input.to_vec();
-    let writer = std::thread::spawn(move || drop(to.write_all(&input)));
-    let output = child.wait_with_output().unwrap();
-    writer.join().unwrap();
-    output
 }
 
 fn text(bytes: &[u8]) -> &str {

@@ -1,21 +1,11 @@
 //! The pictures, and the parts in examples/parts: text, report and picture of each.
+mod common;
+
+use common::run_on;
 use std::fs;
-use std::io::Write;
-use std::process::{Command, Output, Stdio};
 
 const EXAMPLES: &str = concat!(env!("CARGO_MANIFEST_DIR"), "/../examples/parts");
 const NAMES: [&str; 5] = ["plate", "detent-plate", "bracket", "cover", "hollow-block"];
-
-fn run_on(words: &[&str], input: &[u8]) -> Output {
-    let mut command = Command::new(env!("CARGO_BIN_EXE_gablemadder"));
-    let mut child = command.args(words).stdin(Stdio::piped()).stdout(Stdio::piped()).stderr(Stdio::piped()).spawn().unwrap();
-    let mut to = child.stdin.take().unwrap();
-    let input = input.to_vec();
-    let writer = std::thread::spawn(move || drop(to.write_all(&input)));
-    let output = child.wait_with_output().unwrap();
-    writer.join().unwrap();
-    output
-}
 
 /// What it prints, where it says nothing and ends well.
 fn printed(words: &[&str], input: &[u8]) -> Vec<u8> {

@@ -1,8 +1,6 @@
 //! The Rust package beside the patched Rust, on generated part files from standard input: the report's bytes or the refusal's number, by a checker that
 //! is kept and by itself; and what is read of a report, written again, is the report.
-#[path = "../lib/stream.rs"]
-mod stream;
-
+use common::stream;
 use gablemadder::{Checker, Finding, Report, MOST_ROWS};
 use oracle::check::{Checked, Lent};
 

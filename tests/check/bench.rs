@@ -3,67 +3,15 @@
 //! is lent one fault row too few, so that it finds all faults and is refused before it merges them; the Rust's is taken by itself. Each time is the best
 //! of many, taken in turn in one run. A word names the benchmark: machining, sheet and printing time the parts of their processes alone, castings those of
 //! one face of 2,048 triangles by every process.
-#[path = "../lib/best.rs"]
-mod best;
-#[path = "../rays/bores.rs"]
-mod bores;
-#[path = "../oracle/generate/draw.rs"]
-#[allow(dead_code)]
-mod draw;
-#[path = "../part/field.rs"]
-mod field;
-#[path = "../oracle/generate/file.rs"]
-mod file;
-#[path = "../lib/gablemadder.rs"]
-mod gablemadder;
-#[path = "../sheet/parts.rs"]
 mod holes;
-#[path = "../oracle/generate/job.rs"]
-#[allow(dead_code)]
-mod job;
-#[path = "../rays/large.rs"]
-#[allow(dead_code)]
-mod large;
-#[path = "../shapes/mesh.rs"]
-mod mesh;
-#[path = "../oracle/generate/part.rs"]
-#[allow(dead_code)]
-mod part;
-#[path = "../oracle/generate/plate.rs"]
-#[allow(dead_code)]
-mod plate;
-#[path = "../machining/plates.rs"]
 mod plates;
-#[path = "../printing/parts.rs"]
 mod prints;
-#[path = "../lib/random.rs"]
-mod random;
-#[path = "../oracle/generate/ring.rs"]
-#[allow(dead_code)]
-mod ring;
-#[path = "../part/sample.rs"]
-mod sample;
-#[path = "../shapes/shapes.rs"]
-mod shapes;
-#[path = "../oracle/generate/sheet.rs"]
-#[allow(dead_code)]
-mod sheet;
-#[path = "../oracle/generate/space.rs"]
-#[allow(dead_code)]
-mod space;
-#[path = "../machining/voxels.rs"]
-#[allow(dead_code)]
-mod voxels;
-#[path = "../rays/walls.rs"]
-mod walls;
-
-mod many;
 mod timed;
 
-use best::best_of;
-use field::Blocks;
-use gablemadder::FaultRow;
-use job::{CNC, FDM, PROCESSES, SHEET, SLA, SLS};
+use common::best::best_of;
+use common::field::Blocks;
+use common::gablemadder::{self, FaultRow};
+use common::generate::job::{CNC, FDM, PROCESSES, SHEET, SLA, SLS};
 use oracle::check::Checked;
 use std::hint::black_box;
 use timed::Timed;

@@ -1,109 +1,14 @@
 //! The check of part files against the patched Rust's: the report byte by byte, refusals 1 to 12, and every lent buffer before and after.
 //! Takes generated files from standard input, and the file `corner` of docs/DIFFERENCES.md by its path; with --quick there are fewer of the others.
-#[path = "../rays/bores.rs"]
-mod bores;
-#[path = "../sheet/brackets.rs"]
-#[allow(dead_code)]
-mod brackets;
-#[path = "../shapes/change.rs"]
-mod change;
-#[path = "../part/damage.rs"]
-#[allow(dead_code)]
-mod damage;
-#[path = "../oracle/generate/draw.rs"]
-#[allow(dead_code)]
-mod draw;
-#[path = "../part/field.rs"]
-mod field;
-#[path = "../oracle/generate/file.rs"]
-mod file;
-#[path = "../oracle/generate/findings.rs"]
-mod findings;
-#[path = "../printing/fit.rs"]
-mod fit;
-#[path = "../printing/floors.rs"]
-mod floors;
-#[path = "../lib/gablemadder.rs"]
-mod gablemadder;
-#[path = "../printing/hollows.rs"]
-#[allow(dead_code)]
-mod hollows;
-#[path = "../rules/ids.rs"]
-#[allow(dead_code)]
-mod ids;
-#[path = "../oracle/generate/job.rs"]
-#[allow(dead_code)]
-mod job;
-#[path = "../printing/jobs.rs"]
-#[allow(dead_code)]
-mod jobs;
-#[path = "../part/large.rs"]
-mod large;
-#[path = "../lib/lent.rs"]
-mod lent;
-#[path = "../machining/limits.rs"]
-mod machining;
-#[path = "../shapes/mesh.rs"]
-mod mesh;
-#[path = "../printing/over.rs"]
-#[allow(dead_code)]
-mod over;
-#[path = "../oracle/generate/part.rs"]
-#[allow(dead_code)]
-mod part;
-#[path = "../oracle/generate/plate.rs"]
-#[allow(dead_code)]
-mod plate;
-#[path = "../lib/random.rs"]
-mod random;
-#[path = "../oracle/generate/ring.rs"]
-#[allow(dead_code)]
-mod ring;
-#[path = "../part/sample.rs"]
-mod sample;
-#[path = "../lib/scratch.rs"]
-mod scratch;
-#[path = "../shapes/shapes.rs"]
-mod shapes;
-#[path = "../oracle/generate/sheet.rs"]
-#[allow(dead_code)]
-mod sheet;
-#[path = "../sheet/jobs.rs"]
-#[allow(dead_code)]
-mod sheet_jobs;
-#[path = "../sheet/limits.rs"]
-mod sheet_limits;
-#[path = "../oracle/generate/space.rs"]
-#[allow(dead_code)]
-mod space;
-#[path = "../lib/stream.rs"]
-mod stream;
-#[path = "../part/sweep.rs"]
-#[allow(dead_code)]
-mod sweep;
-#[path = "../lib/tally.rs"]
-mod tally;
-#[path = "../rays/trees.rs"]
-mod trees;
-#[path = "../printing/ups.rs"]
-#[allow(dead_code)]
-mod ups;
-#[path = "../machining/voxels.rs"]
-#[allow(dead_code)]
-mod voxels;
-#[path = "../rays/walls.rs"]
-mod walls;
-
-mod compare;
-mod many;
-mod parts;
-mod seen;
-mod sizes;
 mod thin;
 
-use compare::Compare;
-use mesh::Mesh;
-use random::Random;
+use against::compare::Compare;
+use against::parts;
+use against::seen::Seen;
+use common::mesh::Mesh;
+use common::random::Random;
+use common::tally::Tally;
+use common::{full, guard, stream, sweep, Check};
 use std::ffi::CStr;
 use std::sync::mpsc::{sync_channel, Receiver};
 use std::sync::Mutex;
@@ -136,7 +41,7 @@ fn main() {
         let work = |k: u64| {
             let (corner, receiver) = (&corner[..], &receiver);
             scope.spawn(move || {
-                scratch::guard::keep_at(CRASHED);
+                guard::keep_at(CRASHED);
                 let mut c = Compare::new(40 + k);
                 own(&mut c, k, threads, quick, corner);
                 from_input(&mut c, receiver);
@@ -160,7 +65,7 @@ fn own(c: &mut Compare, thread: u64, threads: u64, quick: bool, corner: &[u8]) {
         }
     }
     if thread + 1 == threads {
-        large::run(c, if quick { 1 } else { 5 });
+        full::run(c, if quick { 1 } else { 5 });
         special(c, if quick { 1 } else { 3 }, quick);
     }
     let shapes = if quick { SHAPES / 100 } else { SHAPES };
@@ -175,7 +80,7 @@ fn own(c: &mut Compare, thread: u64, threads: u64, quick: bool, corner: &[u8]) {
 
 /// A part, a changed copy and a damaged one, by its number alone.
 fn shape(c: &mut Compare, number: u64) {
-    let mut random = Random(Random(50).next() ^ Random(!number).next());
+    let mut random = Random::of(50, number);
     let mesh = parts::draw(&mut random);
     c.check(&mesh.bytes(), || format!("shape {number}"));
     c.check(&parts::changed(&mut random, &mesh).bytes(), || format!("shape {number}, changed"));
@@ -186,7 +91,7 @@ fn shape(c: &mut Compare, number: u64) {
 
 /// A part of thin lengths, by its number alone.
 fn thin_part(c: &mut Compare, number: u64) {
-    let file = thin::draw(&mut Random(Random(53).next() ^ Random(!number).next())).bytes();
+    let file = thin::draw(&mut Random::of(53, number)).bytes();
     if c.check(&file, || format!("thin part {number}")) == 0 {
         thin::count(&mut c.seen, &file);
     }
@@ -209,7 +114,7 @@ fn from_input(c: &mut Compare, files: &Generated) {
     let next = || files.lock().expect("a test thread failed").recv().ok();
     while let Some((number, file)) = next() {
         if c.check(&file, || format!("generated file {number}")) == 0 && file.len() < LARGE {
-            let mut random = Random(Random(52).next() ^ Random(!number).next());
+            let mut random = Random::of(52, number);
             let changed = parts::changed(&mut random, &Mesh::read(&file));
             c.check(&changed.bytes(), || format!("generated file {number}, changed"));
         }
@@ -218,18 +123,13 @@ fn from_input(c: &mut Compare, files: &Generated) {
 
 /// Prints the figures. The program's status: not 0 on a difference, or where too little was seen.
 fn report(done: Vec<Compare>, quick: bool) -> i32 {
-    let (mut files, mut calls, mut different) = (0, 0, 0);
-    let (mut seen, mut smallest) = (seen::Seen::wanted(), None::<Vec<u8>>);
+    let (mut tally, mut seen, mut calls) = (Tally::default(), Seen::wanted(), 0);
     for c in done {
-        (files, calls, different) = (files + c.tally.compared, calls + c.calls, different + c.tally.different);
-        seen = seen.and(c.seen);
-        smallest = smallest.into_iter().chain(c.smallest).min_by_key(Vec::len);
+        (tally, seen, calls) = (tally.and(c.tally), seen.and(c.seen), calls + c.calls);
     }
     println!("check: {}", seen.text());
-    if let Some(file) = smallest {
-        std::fs::write(DIFFERENT, &file).expect("a place for the file");
-        println!("check: the smallest file with a difference, {} bytes, is in {DIFFERENT}", file.len());
-    }
+    tally.keep_smallest("check: the smallest file", DIFFERENT);
+    let (files, different) = (tally.compared, tally.different);
     let rare = [seen.too_rare(), thin::too_rare(&seen)].concat();
     let few = !quick && (files < LEAST || !rare.is_empty());
     if few {

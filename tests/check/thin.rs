@@ -1,12 +1,15 @@
 //! Parts whose lengths crowd around 0.1 mm and below, where a length's text has a third decimal: layers of resin, thin walls and floors, short corners,
 //! small holes and brackets, several in a part, so that texts that agree in two decimals and not in three stand side by side.
-use crate::field::{real, set_real, set_word, word};
-use crate::findings::{self, FINDINGS};
-use crate::mesh::Mesh;
-use crate::random::Random;
-use crate::seen::Seen;
-use crate::shapes::{block, nudge, pick};
-use crate::{bores, brackets, jobs, parts, sheet_jobs, voxels};
+use against::parts;
+use against::printing::jobs;
+use against::seen::Seen;
+use against::sheet::{brackets, jobs as sheet_jobs};
+use common::field::{real, set_real, set_word, word};
+use common::generate::findings::{self, FINDINGS};
+use common::mesh::Mesh;
+use common::random::Random;
+use common::shapes::{block, nudge, pick};
+use common::{bores, voxels};
 use oracle::check::Checked;
 use two_decimals::check::Checked as CheckedBefore;
 

@@ -1,16 +1,13 @@
 //! Parts to time, each with a name: those of machining, sheet metal and printing, of about 6, 200, 800, 3,200 and 4,000 polygons, and parts of about
 //! 2,048 faults.
-use crate::file;
-use crate::holes;
-use crate::job::{Job, CNC, FDM, SHEET, SLA, SLS};
-use crate::large;
-use crate::many;
-use crate::mesh::Mesh;
-use crate::part::Part;
-use crate::plate::{cuts, plate, slab, Cell};
-use crate::plates;
-use crate::prints;
-use crate::ring::Ring;
+use crate::{holes, plates, prints};
+use common::generate::file;
+use common::generate::job::{Job, CNC, FDM, SHEET, SLA, SLS};
+use common::generate::part::Part;
+use common::generate::plate::{cuts, plate, slab, Cell};
+use common::generate::ring::Ring;
+use common::mesh::Mesh;
+use common::{large, many};
 
 const WIDTH: f64 = 10.0;
 

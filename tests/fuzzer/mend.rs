@@ -1,7 +1,7 @@
 //! Bytes made into a file that can be read, where little is wrong with them.
-use crate::field::{real, set_bits, set_word, word, Blocks};
-use crate::mesh::{Mesh, MOST_POINTS, MOST_POLYGONS, MOST_VERTICES};
-use crate::sample;
+use common::field::{real, set_bits, set_word, word, Blocks};
+use common::mesh::{Mesh, MOST_POINTS, MOST_POLYGONS, MOST_VERTICES};
+use common::sample;
 
 /// The polygons of a file whose counts fit its length, wherever their runs are.
 pub fn readable(file: &[u8]) -> Option<Mesh> {

@@ -1,12 +1,16 @@
 //! How the fuzzer changes a part file: most often by what a part is made of, so that the file stays one; else its bytes.
-use crate::damage::damage;
-use crate::field::{real, set_real, set_word, word};
 use crate::mend::{self, mended, readable};
-use crate::mesh::Mesh;
 use crate::points::{self, LIMITS};
-use crate::random::Random;
-use crate::shapes::{nudge, pick};
-use crate::{change, fit, ids, machining, parts, sheet_limits};
+use against::machining::limits as machining;
+use against::parts;
+use against::printing::fit;
+use against::sheet::limits as sheet_limits;
+use common::damage::damage;
+use common::field::{real, set_real, set_word, word};
+use common::mesh::Mesh;
+use common::random::Random;
+use common::shapes::{nudge, pick};
+use common::{change, ids};
 
 /// Polygons of a part drawn anew, or put together from two: more would make the file slow.
 const FEW: usize = 24;

@@ -1,9 +1,9 @@
 //! One file: the answers, the buffers, and what the report has, for the fuzzer to look for more of.
-use crate::compare::Compare;
-use crate::field::{word, Blocks};
-use crate::random::Random;
-use crate::sizes::Sizes;
 use crate::which;
+use against::compare::Compare;
+use against::sizes::Sizes;
+use common::field::{word, Blocks};
+use common::random::Random;
 use oracle::check::Checked;
 use std::ptr::addr_of_mut;
 

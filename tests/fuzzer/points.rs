@@ -1,9 +1,9 @@
 //! Changes of a part's points, polygons and surfaces.
-use crate::field::{real, set_real, set_word, word};
 use crate::mend;
-use crate::mesh::{Mesh, Point, Polygon, MOST_POINTS};
-use crate::random::Random;
-use crate::shapes::{nudge, pick, within, STEPS};
+use common::field::{real, set_real, set_word, word};
+use common::mesh::{Mesh, Point, Polygon, MOST_POINTS};
+use common::random::Random;
+use common::shapes::{nudge, pick, within, STEPS};
 
 /// Numbers that the rules compare with, and what comes of them.
 pub const LIMITS: [f64; 40] = [

@@ -1,120 +1,13 @@
 //! What the fuzzer calls: each input is a part file, whose answer and lent buffers are compared with the patched Rust's. The lending hangs on the file alone.
 #![no_main]
-#[path = "../rays/bores.rs"]
-mod bores;
-#[path = "../sheet/brackets.rs"]
-#[allow(dead_code)]
-mod brackets;
-#[path = "../shapes/change.rs"]
-mod change;
-#[path = "../check/compare.rs"]
-#[allow(dead_code)]
-mod compare;
-#[path = "../part/damage.rs"]
-#[allow(dead_code)]
-mod damage;
-#[path = "../oracle/generate/draw.rs"]
-#[allow(dead_code)]
-mod draw;
-#[path = "../part/field.rs"]
-mod field;
-#[path = "../oracle/generate/file.rs"]
-mod file;
-#[path = "../oracle/generate/findings.rs"]
-#[allow(dead_code)]
-mod findings;
-#[path = "../printing/fit.rs"]
-mod fit;
-#[path = "../printing/floors.rs"]
-mod floors;
-#[path = "../lib/gablemadder.rs"]
-mod gablemadder;
-#[path = "../printing/hollows.rs"]
-#[allow(dead_code)]
-mod hollows;
-#[path = "../rules/ids.rs"]
-#[allow(dead_code)]
-mod ids;
-#[path = "../oracle/generate/job.rs"]
-#[allow(dead_code)]
-mod job;
-#[path = "../printing/jobs.rs"]
-#[allow(dead_code)]
-mod jobs;
-#[path = "../lib/lent.rs"]
-#[allow(dead_code)]
-mod lent;
-#[path = "../machining/limits.rs"]
-mod machining;
-#[path = "../check/many.rs"]
-mod many;
-#[path = "../shapes/mesh.rs"]
-mod mesh;
-#[path = "../printing/over.rs"]
-#[allow(dead_code)]
-mod over;
-#[path = "../oracle/generate/part.rs"]
-#[allow(dead_code)]
-mod part;
-#[path = "../check/parts.rs"]
-#[allow(dead_code)]
-mod parts;
-#[path = "../oracle/generate/plate.rs"]
-#[allow(dead_code)]
-mod plate;
-#[path = "../lib/random.rs"]
-mod random;
-#[path = "../oracle/generate/ring.rs"]
-#[allow(dead_code)]
-mod ring;
-#[path = "../part/sample.rs"]
-mod sample;
-#[path = "../lib/scratch.rs"]
-mod scratch;
-#[path = "../check/seen.rs"]
-#[allow(dead_code)]
-mod seen;
-#[path = "../shapes/shapes.rs"]
-mod shapes;
-#[path = "../oracle/generate/sheet.rs"]
-#[allow(dead_code)]
-mod sheet;
-#[path = "../sheet/jobs.rs"]
-#[allow(dead_code)]
-mod sheet_jobs;
-#[path = "../sheet/limits.rs"]
-mod sheet_limits;
-#[path = "../check/sizes.rs"]
-#[allow(dead_code)]
-mod sizes;
-#[path = "../oracle/generate/space.rs"]
-#[allow(dead_code)]
-mod space;
-#[path = "../lib/stream.rs"]
-#[allow(dead_code)]
-mod stream;
-#[path = "../lib/tally.rs"]
-#[allow(dead_code)]
-mod tally;
-#[path = "../printing/ups.rs"]
-#[allow(dead_code)]
-mod ups;
-#[path = "../machining/voxels.rs"]
-#[allow(dead_code)]
-mod voxels;
-#[path = "../rays/trees.rs"]
-mod trees;
-#[path = "../rays/walls.rs"]
-mod walls;
-
 mod mend;
 mod mutate;
 mod one;
 mod points;
 mod which;
 
-use compare::Compare;
-use random::Random;
+use against::compare::Compare;
+use common::random::Random;
 use std::cell::RefCell;
 
 thread_local! {

@@ -1,6 +1,6 @@
 //! Bores of many facets, in the orders that a modeller gives them.
-use crate::bores::{Axis, Wall, WORLD};
-use crate::mesh::{Mesh, Point, Polygon};
+use common::bores::{Axis, Wall, WORLD};
+use common::mesh::{Mesh, Point, Polygon};
 use std::f64::consts::TAU;
 
 /// One bore alone: so many columns of facets, each of so many strips, one above the other.

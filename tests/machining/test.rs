@@ -1,65 +1,13 @@
-//! The check of cut parts against the patched Rust's (tests/check/compare.rs), with each rule of machining at its limits, counted by the Rust's faults
+//! The check of cut parts against the patched Rust's (tests/against/compare.rs), with each rule of machining at its limits, counted by the Rust's faults
 //! before it merges equal ones. Takes generated files from standard input; with --quick there are fewer of the others.
-#[path = "../rays/bores.rs"]
-mod bores;
-#[path = "../shapes/change.rs"]
-mod change;
-#[path = "../check/compare.rs"]
-#[allow(dead_code)]
-mod compare;
-#[path = "../rules/counts.rs"]
-mod counts;
-#[path = "../oracle/generate/draw.rs"]
-#[allow(dead_code)]
-mod draw;
-#[path = "../part/field.rs"]
-mod field;
-#[path = "../oracle/generate/findings.rs"]
-mod findings;
-#[path = "../rules/frame.rs"]
-mod frame;
-#[path = "../lib/gablemadder.rs"]
-mod gablemadder;
-#[path = "../rules/ids.rs"]
-mod ids;
-#[path = "../oracle/generate/job.rs"]
-#[allow(dead_code)]
-mod job;
-#[path = "../lib/lent.rs"]
-mod lent;
-#[path = "../shapes/mesh.rs"]
-mod mesh;
-#[path = "../lib/random.rs"]
-mod random;
-#[path = "../part/sample.rs"]
-mod sample;
-#[path = "../lib/scratch.rs"]
-mod scratch;
-#[path = "../check/seen.rs"]
-#[allow(dead_code)]
-mod seen;
-#[path = "../shapes/shapes.rs"]
-mod shapes;
-#[path = "../check/sizes.rs"]
-mod sizes;
-#[path = "../oracle/generate/space.rs"]
-#[allow(dead_code)]
-mod space;
-#[path = "../lib/stream.rs"]
-mod stream;
-#[path = "../lib/tally.rs"]
-mod tally;
-#[path = "../rays/walls.rs"]
-mod walls;
-
 mod facets;
-mod limits;
-mod voxels;
 mod wanted;
 
-use frame::Files;
-use mesh::Mesh;
-use random::Random;
+use against::frame::{self, Files};
+use against::machining::limits;
+use common::mesh::Mesh;
+use common::random::Random;
+use common::{bores, change, ids, shapes, voxels, walls};
 use wanted::Machining;
 
 fn main() {
@@ -68,7 +16,7 @@ fn main() {
 
 fn own(c: &mut Files<Machining>, quick: bool) {
     let (shapes, rounds) = if quick { (3_000, 1) } else { (70_000, 2) };
-    own_shapes(c, shapes);
+    c.shapes(26, shapes, draw, changed);
     many_facets(c, rounds);
     many_faults(c, rounds);
 }
@@ -103,16 +51,6 @@ fn draw(random: &mut Random) -> Mesh {
     };
     mesh.job = limits::job(random);
     mesh
-}
-
-fn own_shapes(c: &mut Files<Machining>, count: u64) {
-    let mut random = Random(26);
-    for number in 0..count {
-        let mesh = draw(&mut random);
-        c.check(&mesh.bytes(), || format!("shape {number}"));
-        let changed = changed(&mut random, &mesh);
-        c.check(&changed.bytes(), || format!("shape {number}, changed"));
-    }
 }
 
 /// As they are, and with a radius at a limit, where it shows whether they are holes.

@@ -1,9 +1,9 @@
 //! What the comparison is to see, and how often each of it occurs in a part.
-use crate::counts::{Counts, SMALL};
-use crate::field::{real, word};
-use crate::frame::Rules;
-use crate::ids::Id;
-use crate::mesh::Mesh;
+use against::counts::{Counts, SMALL};
+use against::frame::Rules;
+use common::field::{real, word};
+use common::ids::Id;
+use common::mesh::Mesh;
 use oracle::faults::{DfmReport, Part};
 use oracle::lists::Lists;
 use oracle::math::Vec3;

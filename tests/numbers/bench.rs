@@ -1,13 +1,7 @@
 //! Times of the numbers beside the hardware's root and `format!`, as ratios from one run: the best of many rounds each, taken in turn.
-#[path = "../lib/best.rs"]
-mod best;
-#[path = "../lib/gablemadder.rs"]
-mod gablemadder;
-#[path = "../lib/random.rs"]
-mod random;
-
-use best::best;
-use random::Random;
+use common::best::best;
+use common::gablemadder;
+use common::random::Random;
 use std::arch::asm;
 use std::fmt::Write;
 use std::hint::black_box;

@@ -1,7 +1,7 @@
 //! Decimals against `format!("{:.p}")`, and each refusal: the number 13, and not a byte changed.
-use crate::gablemadder;
-use crate::random::Random;
-use crate::tally::Tally;
+use common::gablemadder;
+use common::random::Random;
+use common::tally::Tally;
 use std::fmt::Write;
 
 const ROOM: usize = 40;

@@ -1,9 +1,6 @@
 //! The fixed list that the program replay_numbers replays: `list patterns` prints its standard input, `list answers` what Rust says of each:
 //! the pattern of the root and the decimals with 0 to 3 places. It needs nothing of Gablemadder.
-#[path = "../lib/random.rs"]
-mod random;
-
-use random::Random;
+use common::random::Random;
 
 fn patterns() -> Vec<u64> {
     let mut list: Vec<u64> = Vec::new();

@@ -1,7 +1,7 @@
 //! Square roots against Rust's `sqrt`. Where Rust gives a NaN, the pattern has to be 7FF8000000000000.
-use crate::gablemadder;
-use crate::random::Random;
-use crate::tally::Tally;
+use common::gablemadder;
+use common::random::Random;
+use common::tally::Tally;
 
 fn check(tally: &mut Tally, bits: u64) {
     let x = f64::from_bits(bits);

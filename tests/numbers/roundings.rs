@@ -1,7 +1,7 @@
 //! `round` and `as i64`, `ceil` and `as usize`, `min`, `max`, `abs` and the sine table against Rust's own.
-use crate::gablemadder;
-use crate::random::Random;
-use crate::tally::Tally;
+use common::gablemadder;
+use common::random::Random;
+use common::tally::Tally;
 
 fn one(tally: &mut Tally, x: f64) {
     let got = gablemadder::round_i64(x);

@@ -1,19 +1,12 @@
 //! The numbers against Rust's own: roots and roundings bit by bit, texts byte by byte, buffers before and after.
 //! With --quick a twentieth of it.
-#[path = "../lib/gablemadder.rs"]
-mod gablemadder;
-#[path = "../lib/random.rs"]
-mod random;
-#[path = "../lib/tally.rs"]
-mod tally;
-
 mod decimals;
 mod roots;
 mod roundings;
 mod texts;
 
+use common::tally::Tally;
 use std::thread;
-use tally::Tally;
 
 fn main() {
     let quick = std::env::args().any(|a| a == "--quick");

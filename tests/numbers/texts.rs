@@ -1,8 +1,8 @@
 //! Bytes, whole numbers, hex digits, thousandths and decimals put at a position: what is written, what is not, and the next position.
 //! Past the end nothing is written and the position still counts, so an empty slice measures.
-use crate::gablemadder;
-use crate::random::Random;
-use crate::tally::Tally;
+use common::gablemadder;
+use common::random::Random;
+use common::tally::Tally;
 
 const ROOM: usize = 64;
 

@@ -1,16 +1,14 @@
 //! A written file, read back: the polygons that the part file's layout gives, and the check's refusal, which is none, 5, 6, 8 or 9.
-use crate::gablemadder;
-use crate::reader::Part;
-use crate::verdict;
+use common::field::word;
+use common::gablemadder;
+use common::obj_reader::Part;
+use common::reader::verdict;
+use common::vector::{length, normal_sum};
 use std::collections::HashSet;
 
 /// What the check answers where it is lent nothing and nothing else turns the file back.
 pub const NONE: u32 = 10;
 const MOST_FACES: usize = 1_024;
-
-fn word(b: &[u8], at: usize) -> u32 {
-    u32::from_le_bytes(b[at..at + 4].try_into().unwrap())
-}
 
 fn bits(b: &[u8], at: usize) -> [u64; 3] {
     [at, at + 8, at + 16].map(|at| u64::from_le_bytes(b[at..at + 8].try_into().unwrap()))
@@ -49,12 +47,12 @@ fn polygons(file: &[u8]) -> Vec<(u32, u32, Vec<[u64; 3]>)> {
 
 /// 5 and 6 by the plain reader of part files, 8 and 9 by the text's polygons.
 fn refusal(file: &[u8], part: &Part) -> u32 {
-    let number = verdict::verdict(file);
+    let number = verdict(file);
     let mut corners = &part.corners[..];
     let mut flat = false;
     for (_, count) in &part.faces {
         let (polygon, rest) = corners.split_at(*count);
-        flat |= normal_sum(polygon) < 1e-14;
+        flat |= length(normal_sum(polygon)) < 1e-14;
         corners = rest;
     }
     let faces: HashSet<u32> = part.faces.iter().map(|f| f.0).collect();
@@ -64,16 +62,4 @@ fn refusal(file: &[u8], part: &Part) -> u32 {
         () if faces.len() > MOST_FACES => 9,
         () => NONE,
     }
-}
-
-/// The length of the normal sum, as the Rust's `Polygon::new` forms it.
-fn normal_sum(corners: &[[f64; 3]]) -> f64 {
-    let mut n = [0.0; 3];
-    for (i, a) in corners.iter().enumerate() {
-        let b = corners[(i + 1) % corners.len()];
-        n[0] += (a[1] - b[1]) * (a[2] + b[2]);
-        n[1] += (a[2] - b[2]) * (a[0] + b[0]);
-        n[2] += (a[0] - b[0]) * (a[1] + b[1]);
-    }
-    (n[0] * n[0] + n[1] * n[1] + n[2] * n[2]).sqrt()
 }

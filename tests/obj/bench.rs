@@ -1,18 +1,6 @@
 //! Time from OBJ text to part file, beside the plain Rust reader of the test: the ratio of the best of many rounds, taken in turn in one run.
-#[path = "../lib/best.rs"]
-mod best;
-#[path = "../part/field.rs"]
-mod field;
-#[path = "../lib/gablemadder.rs"]
-mod gablemadder;
-#[path = "../lib/random.rs"]
-mod random;
-#[path = "../part/sample.rs"]
-mod sample;
-
-mod reader;
-
-use best::best;
+use common::best::best;
+use common::{gablemadder, obj_reader as reader, sample};
 use std::fmt::Write;
 use std::hint::black_box;
 

@@ -1,14 +1,14 @@
 //! One text: the answer, the part file and each lent buffer before and after, beside the plain reader's; and what the check says of the file.
 use crate::back;
-use crate::draw::pick;
-use crate::gablemadder;
-use crate::random::Random;
-use crate::reader::{self, Part, JOB};
-use crate::sample::{self, GOOD_FLAGS};
-use crate::scratch::guard::{self, Guarded};
-use crate::scratch::Scratch;
 use crate::seen::Seen;
-use crate::tally::Tally;
+use common::gablemadder;
+use common::guard::{self, Guarded};
+use common::obj_reader::{self as reader, Part, JOB};
+use common::random::Random;
+use common::sample::{self, GOOD_FLAGS};
+use common::scratch::Scratch;
+use common::shapes::pick;
+use common::tally::Tally;
 
 /// Of longer files one in so many is read back.
 const LONG: usize = 100_000;
@@ -18,8 +18,6 @@ pub struct Compare {
     pub tally: Tally,
     pub seen: Seen,
     pub calls: u64,
-    /// The shortest text with a difference.
-    pub shortest: Option<Vec<u8>>,
     random: Random,
     text: Scratch<u8>,
     job: Scratch<u8>,
@@ -33,7 +31,6 @@ impl Compare {
             tally: Tally::default(),
             seen: Seen::wanted(),
             calls: 0,
-            shortest: None,
             random: Random(seed),
             text: Scratch::named("text"),
             job: Scratch::named("job"),
@@ -52,10 +49,7 @@ impl Compare {
             Ok(part) => (part.refusal(JOB, usize::MAX), self.accepted(part)),
         };
         self.seen.text(text, read.as_ref().ok());
-        if result.is_err() && self.shortest.as_ref().is_none_or(|s| text.len() < s.len()) {
-            self.shortest = Some(text.to_vec());
-        }
-        self.tally.check(result.is_ok(), || format!("{} ({} bytes): {}", what(), text.len(), result.unwrap_err()));
+        self.tally.check_input(text, result, what);
         answer
     }
 

@@ -1,6 +1,6 @@
 //! Texts damaged in a place or two.
-use crate::draw::pick;
-use crate::random::Random;
+use common::random::Random;
+use common::shapes::pick;
 
 /// What a byte is made, most often.
 const BYTES: &[u8] = b"0123456789 \n\r\t.+-#vfg/eE,_:\0\x0b\x0c\x1f\x21\x7f\x80\xa0\xffVFGn";

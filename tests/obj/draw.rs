@@ -1,5 +1,6 @@
 //! Texts drawn line by line: decimals and numbers of every form, faces and face indices anywhere, and now and then a line that is refused.
-use crate::random::Random;
+use common::random::Random;
+use common::shapes::pick;
 
 /// What is written in one text, and how.
 pub struct Draw<'a> {
@@ -117,10 +118,6 @@ pub const WRONG: &[&[u8]] = &[
     b"g name",
     b"g -0",
 ];
-
-pub fn pick<T: Copy>(random: &mut Random, list: &[T]) -> T {
-    list[random.below(list.len() as u64) as usize]
-}
 
 impl Draw<'_> {
     fn below(&mut self, n: u64) -> u64 {

@@ -1,7 +1,8 @@
 //! Long texts: as many corners and polygons as a part file has room for and one more, more vertices than that, used from anywhere, and many decimals.
 use crate::compare::Compare;
-use crate::draw::{decimal, pick};
-use crate::random::Random;
+use crate::draw::decimal;
+use common::random::Random;
+use common::shapes::pick;
 use std::fmt::Write;
 
 /// Faces of these many corners over so many vertices, by their numbers in turn, with an index for each so many.

@@ -1,6 +1,6 @@
 //! What the comparison is to see, and how often it did.
 use crate::back::NONE;
-use crate::reader::{Part, JOB};
+use common::obj_reader::{Part, JOB};
 use std::collections::BTreeMap;
 
 /// How often each has to occur in a whole run.

@@ -1,31 +1,18 @@
 //! Part files of OBJ text against a plain reader in Rust: the answer, the file byte by byte and every lent buffer before and after, on texts drawn,
 //! damaged and at each limit; and what the check says of the files. With --quick a twentieth of it.
-#[path = "../part/field.rs"]
-mod field;
-#[path = "../lib/gablemadder.rs"]
-mod gablemadder;
-#[path = "../lib/random.rs"]
-mod random;
-#[path = "../part/sample.rs"]
-mod sample;
-#[path = "../lib/scratch.rs"]
-mod scratch;
-#[path = "../lib/tally.rs"]
-mod tally;
-#[path = "../part/reader.rs"]
-mod verdict;
-
 mod back;
 mod compare;
 mod damage;
 mod draw;
 mod limits;
 mod long;
-mod reader;
 mod seen;
 
+use common::guard;
+use common::random::Random;
+use common::tally::Tally;
 use compare::Compare;
-use random::Random;
+use seen::Seen;
 use std::ffi::CStr;
 use std::thread;
 
@@ -51,7 +38,7 @@ fn main() {
 
 /// What one of the threads takes, and how many decimals it compared.
 fn share(k: u64, threads: u64, part: u64) -> (Compare, u64) {
-    scratch::guard::keep_at(CRASHED);
+    guard::keep_at(CRASHED);
     let mut c = Compare::new(60 + k);
     if k == 0 {
         limits::run(&mut c);
@@ -65,17 +52,13 @@ fn share(k: u64, threads: u64, part: u64) -> (Compare, u64) {
         drawn(&mut c, number);
     }
     let texts = (k..OF_DECIMALS / part).step_by(threads as usize);
-    let decimals = texts.map(|number| long::decimals(&mut c, &mut seeded(62, number), number)).sum();
+    let decimals = texts.map(|number| long::decimals(&mut c, &mut Random::of(62, number), number)).sum();
     (c, decimals)
-}
-
-fn seeded(seed: u64, number: u64) -> Random {
-    Random(Random(seed).next() ^ Random(!number).next())
 }
 
 /// A text and two damaged copies, by its number alone.
 fn drawn(c: &mut Compare, number: u64) {
-    let mut random = seeded(63, number);
+    let mut random = Random::of(63, number);
     let text = draw::text(&mut random);
     c.check(&text, || format!("text {number}"));
     for copy in 0..2 {
@@ -87,19 +70,14 @@ fn drawn(c: &mut Compare, number: u64) {
 
 /// Prints the figures. The program's status: not 0 on a difference, or where too little was seen.
 fn report(done: Vec<(Compare, u64)>, quick: bool) -> i32 {
-    let (mut texts, mut calls, mut decimals, mut different) = (0, 0, 0, 0);
-    let (mut seen, mut shortest) = (seen::Seen::wanted(), None::<Vec<u8>>);
+    let (mut tally, mut seen, mut calls, mut decimals) = (Tally::default(), Seen::wanted(), 0, 0);
     for (c, of_decimals) in done {
-        (texts, calls, different) = (texts + c.tally.compared, calls + c.calls, different + c.tally.different);
+        (tally, seen, calls) = (tally.and(c.tally), seen.and(c.seen), calls + c.calls);
         decimals += of_decimals;
-        seen = seen.and(c.seen);
-        shortest = shortest.into_iter().chain(c.shortest).min_by_key(Vec::len);
     }
     println!("obj: {}", seen.text_of());
-    if let Some(text) = shortest {
-        std::fs::write(DIFFERENT, &text).expect("a place for the text");
-        println!("obj: the shortest text with a difference, {} bytes, is in {DIFFERENT}", text.len());
-    }
+    tally.keep_smallest("obj: the shortest text", DIFFERENT);
+    let (texts, different) = (tally.compared, tally.different);
     let rare = seen.too_rare();
     let few = !quick && (texts < LEAST || decimals < LEAST_DECIMALS || !rare.is_empty());
     if few {

@@ -1,18 +1,8 @@
 //! Time to read and judge a part file at the most polygons and vertices, beside a plain Rust reader that makes the same tests: the ratio of the
 //! best of many rounds, taken in turn in one run. The file's last entry is out of the rules, so that the check ends where the reader does.
-#[path = "../lib/best.rs"]
-mod best;
-#[path = "../lib/gablemadder.rs"]
-mod gablemadder;
-#[path = "../lib/random.rs"]
-mod random;
-
-mod field;
-mod reader;
-mod sample;
-
-use best::best;
-use field::{set_word, Blocks};
+use common::best::best;
+use common::field::{set_word, Blocks};
+use common::{gablemadder, reader, sample};
 use std::hint::black_box;
 
 const POLYGONS: usize = 4096;

@@ -1,7 +1,6 @@
 //! One file: the check's answer where it is lent nothing, beside the oracle's, with the lent bytes before and after.
-use crate::gablemadder;
-use crate::reader;
-use crate::tally::Tally;
+use common::tally::Tally;
+use common::{gablemadder, reader, Check};
 
 const MARGIN: [u8; 8] = [0x5a; 8];
 /// What refuses a part that nothing else turns back: no scratch is lent.
@@ -15,9 +14,9 @@ pub struct Compare {
     lent: Vec<u8>,
 }
 
-impl Compare {
-    /// The benchmark's reader, which knows 1 to 7 only, has to agree too, or it would be no peer.
-    pub fn check(&mut self, file: &[u8], what: impl FnOnce() -> String) {
+impl Check for Compare {
+    /// The oracle's answer. The benchmark's reader, which knows 1 to 7 only, has to agree too, or it would be no peer.
+    fn check(&mut self, file: &[u8], what: impl FnOnce() -> String) -> u32 {
         // at every alignment in turn
         let start = (self.tally.compared % 8) as usize;
         self.lent.clear();
@@ -36,5 +35,6 @@ impl Compare {
             let bytes = if unchanged { "unchanged" } else { "CHANGED" };
             format!("{} ({} bytes, {bytes}): ours {ours} for {want}, the benchmark's {peer}", what(), file.len())
         });
+        oracle
     }
 }

@@ -1,9 +1,10 @@
 //! Random bytes of random length from 0 on; some with a trailer that fits, some with a good job, so that the later refusals have their turn.
 use crate::compare::Compare;
-use crate::damage::damage;
-use crate::field::Blocks;
-use crate::random::Random;
-use crate::sample::{file, job, GOOD_FLAGS};
+use common::damage::damage;
+use common::field::Blocks;
+use common::random::Random;
+use common::sample::{file, job, GOOD_FLAGS};
+use common::Check;
 
 pub fn run(c: &mut Compare, scale: u64) {
     let mut random = Random(3);

@@ -1,23 +1,10 @@
 //! The check of part files that is lent nothing against the oracle's: the same refusal from 1 to 9 for every file, else 10, and no byte changed.
 //! Takes generated files from standard input; with --quick the small files are fewer.
-#[path = "../lib/gablemadder.rs"]
-mod gablemadder;
-#[path = "../lib/random.rs"]
-mod random;
-#[path = "../lib/stream.rs"]
-mod stream;
-#[path = "../lib/tally.rs"]
-mod tally;
-
 mod compare;
-mod damage;
-mod field;
-mod large;
+mod generated;
 mod noise;
-mod reader;
-mod sample;
-mod sweep;
 
+use common::{full, sweep};
 use compare::Compare;
 use std::thread;
 
@@ -30,11 +17,11 @@ fn main() {
         let mut c = Compare::default();
         sweep::run(&mut c, scale);
         noise::run(&mut c, scale);
-        large::run(&mut c, scale);
+        full::run(&mut c, scale);
         c
     });
     let mut generated = Compare::default();
-    damage::run(&mut generated, copies).expect("a stream of part files");
+    generated::run(&mut generated, copies).expect("a stream of part files");
     let small = small.join().expect("a test thread failed");
     let seen: Vec<u64> = (0..10).map(|i| small.seen[i] + generated.seen[i]).collect();
     let different = small.tally.different + generated.tally.different;

@@ -1,10 +1,10 @@
 //! Closed bodies and what opens them: a polygon missing, one too many, one flipped, bodies glued along an edge, sides shorter than a key, corners a key
 //! apart. And how many sides each key has.
-use crate::counts::{Counts, SMALL};
-use crate::jobs;
-use crate::mesh::{Mesh, Point};
-use crate::random::Random;
-use crate::shapes::{block, pick, shuffle};
+use against::counts::{Counts, SMALL};
+use against::printing::jobs;
+use common::mesh::{Mesh, Point};
+use common::random::Random;
+use common::shapes::{block, pick, shuffle};
 use oracle::faults::DfmReport;
 use std::collections::HashMap;
 

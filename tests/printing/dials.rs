@@ -1,11 +1,11 @@
 //! Parts of printing that hang on one number: where up points, how large the part is, how far a piece of it stands off.
-use crate::arrange;
-use crate::dial::{self, Dial};
-use crate::ids::Id;
-use crate::jobs;
-use crate::mesh::Mesh;
-use crate::random::Random;
-use crate::shapes::pick;
+use against::arrange;
+use against::dial::{self, Dial};
+use against::printing::jobs;
+use common::ids::Id;
+use common::mesh::Mesh;
+use common::random::Random;
+use common::shapes::pick;
 use oracle::faults::{Part, Severity};
 
 #[derive(PartialEq)]

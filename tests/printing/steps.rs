@@ -1,9 +1,9 @@
 //! The way of the Rust's `printing`, step by step, to count what nearly happened at each: walls and holes here, undersides and hollows beside.
-use crate::counts::Counts;
-use crate::fit::SLACK;
-use crate::jobs::Print;
-use crate::ups;
 use crate::{shells, undersides};
+use against::counts::Counts;
+use against::printing::fit::SLACK;
+use against::printing::jobs::Print;
+use against::printing::ups;
 use oracle::faults::{DfmReport, Part};
 use oracle::math::Vec3;
 use oracle::measures::Measures;

@@ -1,82 +1,20 @@
-//! The check of printed parts against the patched Rust's (tests/check/compare.rs), with each rule of printing at its limits, counted by the Rust's faults
+//! The check of printed parts against the patched Rust's (tests/against/compare.rs), with each rule of printing at its limits, counted by the Rust's faults
 //! before it merges equal ones. Takes generated files from standard input; with --quick there are fewer of the others.
-#[path = "../rules/arrange.rs"]
-mod arrange;
-#[path = "../rays/bores.rs"]
-mod bores;
-#[path = "../shapes/change.rs"]
-mod change;
-#[path = "../check/compare.rs"]
-#[allow(dead_code)]
-mod compare;
-#[path = "../rules/counts.rs"]
-mod counts;
-#[path = "../rules/dial.rs"]
-mod dial;
-#[path = "../oracle/generate/draw.rs"]
-#[allow(dead_code)]
-mod draw;
-#[path = "../part/field.rs"]
-mod field;
-#[path = "../oracle/generate/findings.rs"]
-mod findings;
-#[path = "../rules/frame.rs"]
-mod frame;
-#[path = "../lib/gablemadder.rs"]
-mod gablemadder;
-#[path = "../rules/ids.rs"]
-mod ids;
-#[path = "../oracle/generate/job.rs"]
-#[allow(dead_code)]
-mod job;
-#[path = "../lib/lent.rs"]
-mod lent;
-#[path = "../shapes/mesh.rs"]
-mod mesh;
-#[path = "../lib/random.rs"]
-mod random;
-#[path = "../part/sample.rs"]
-mod sample;
-#[path = "../lib/scratch.rs"]
-mod scratch;
-#[path = "../check/seen.rs"]
-#[allow(dead_code)]
-mod seen;
-#[path = "../shapes/shapes.rs"]
-mod shapes;
-#[path = "../check/sizes.rs"]
-mod sizes;
-#[path = "../oracle/generate/space.rs"]
-#[allow(dead_code)]
-mod space;
-#[path = "../lib/stream.rs"]
-mod stream;
-#[path = "../lib/tally.rs"]
-mod tally;
-#[path = "../machining/voxels.rs"]
-#[allow(dead_code)]
-mod voxels;
-#[path = "../rays/walls.rs"]
-mod walls;
-
 mod closed;
 mod dials;
-mod fit;
-mod floors;
-mod hollows;
-mod jobs;
-mod over;
 mod shells;
 mod steps;
 mod undersides;
-mod ups;
 mod wanted;
 
-use fit::Fit;
-use frame::Files;
-use mesh::Mesh;
-use random::Random;
-use shapes::pick;
+use against::arrange;
+use against::frame::{self, Files};
+use against::printing::fit::{self, Fit};
+use against::printing::{floors, hollows, jobs, over, ups};
+use common::mesh::Mesh;
+use common::random::Random;
+use common::shapes::{self, pick};
+use common::{bores, change, voxels, walls};
 use wanted::Printing;
 
 fn main() {
@@ -86,7 +24,7 @@ fn main() {
 fn own(c: &mut Files<Printing>, quick: bool) {
     let (shapes, dials, rounds, bodies) = if quick { (1_500, 200, 1, 3_500) } else { (45_000, 12_000, 2, 525_000) };
     own_bodies(c, bodies);
-    own_shapes(c, shapes);
+    c.shapes(46, shapes, turned, changed);
     every_limit(c, if quick { 90 } else { 1 });
     own_dials(c, dials);
     many_faults(c, rounds);
@@ -147,17 +85,13 @@ fn own_bodies(c: &mut Files<Printing>, count: usize) {
     }
 }
 
-fn own_shapes(c: &mut Files<Printing>, count: u64) {
-    let mut random = Random(46);
-    for number in 0..count {
-        let mut mesh = draw(&mut random);
-        if random.below(3) == 0 {
-            ups::quarter_turns(&mut random, &mut mesh);
-        }
-        c.check(&mesh.bytes(), || format!("shape {number}"));
-        let changed = changed(&mut random, &mesh);
-        c.check(&changed.bytes(), || format!("shape {number}, changed"));
+/// In the pose of a drawn part, or turned.
+fn turned(random: &mut Random) -> Mesh {
+    let mut mesh = draw(random);
+    if random.below(3) == 0 {
+        ups::quarter_turns(random, &mut mesh);
     }
+    mesh
 }
 
 /// For the limits of overhangs, of so many tenths of a degree each: faces that lean by their sine, and by it and the slack, and a few f64 beside.

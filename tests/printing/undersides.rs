@@ -1,6 +1,6 @@
 //! What hangs over, and what nearly did.
-use crate::fit::SLACK;
 use crate::steps::Steps;
+use against::printing::fit::SLACK;
 use oracle::lists::Lists;
 use oracle::math::Vec3;
 use oracle::measures::Round;

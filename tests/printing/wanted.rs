@@ -1,13 +1,13 @@
 //! What the comparison is to see, and how often each of it occurs in a part.
 use crate::closed;
-use crate::counts::{Counts, SMALL};
-use crate::field::word;
-use crate::frame::Rules;
-use crate::ids::Id;
-use crate::jobs::{self, Print};
-use crate::mesh::Mesh;
 use crate::steps::Steps;
-use crate::ups;
+use against::counts::{Counts, SMALL};
+use against::frame::Rules;
+use against::printing::jobs::{self, Print};
+use against::printing::ups;
+use common::field::word;
+use common::ids::Id;
+use common::mesh::Mesh;
 use oracle::faults::{DfmReport, Part};
 
 /// What is to occur beside what every process has, and how often at the least.

@@ -1,10 +1,11 @@
 //! Rays for a body: at random, and at what is hard: vertices, sides and the tolerance beside them, along faces, sides and the bounds of boxes, from a face
 //! itself, through a box beside its polygon, with zeros of both signs, and numbers that no caller should pass.
-use crate::field::ODD;
-use crate::mesh::{Mesh, Point, Polygon};
-use crate::polygon::{centroid, cross, length, minus, own_box, plane, plus, times};
-use crate::random::Random;
-use crate::shapes::{nudge, pick};
+use crate::polygon::{centroid, own_box, plane};
+use common::field::ODD;
+use common::mesh::{Mesh, Point, Polygon};
+use common::random::Random;
+use common::shapes::{nudge, pick};
+use common::vector::{cross, length, minus, plus, times};
 
 type Ray = [Point; 2];
 

@@ -1,27 +1,9 @@
 //! Times of a ray, of the readings and of building the tree of boxes beside the Rust's: as published, whose rays go down a tree of boxes, and with the
 //! replacements, whose rays try every polygon. Ours begin at the file's bytes, the Rust's at the part it has read already: so the time of a call that casts
 //! no ray, or that is lent nothing for the tree, is taken off ours, and stands beside. Each time is the best of many, taken in turn in one run.
-#[path = "../lib/best.rs"]
-mod best;
-#[path = "../part/field.rs"]
-mod field;
-#[path = "../lib/gablemadder.rs"]
-mod gablemadder;
-#[path = "../shapes/mesh.rs"]
-mod mesh;
-#[path = "../lib/random.rs"]
-mod random;
-#[path = "../part/sample.rs"]
-mod sample;
-#[path = "../shapes/shapes.rs"]
-mod shapes;
-
-mod bores;
-mod large;
-mod walls;
-
-use best::best_of;
-use mesh::Mesh;
+use common::best::best_of;
+use common::mesh::Mesh;
+use common::{gablemadder, large};
 use std::hint::black_box;
 
 /// At about 4,000 polygons a ray is to take at most this many times the time of the Rust's in its tree, and building the tree.

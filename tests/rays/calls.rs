@@ -1,9 +1,9 @@
 //! The calls of the probe, each lent what it needs or some more, full of garbage, and one cell too few.
-use crate::field::Blocks;
 use crate::found::{Found, Hit, Sample};
-use crate::gablemadder;
-use crate::random::Random;
-use crate::scratch::{is_refusal, Scratch};
+use common::field::Blocks;
+use common::gablemadder;
+use common::random::Random;
+use common::scratch::{is_refusal, Scratch};
 
 struct Call {
     name: &'static str,

@@ -1,13 +1,13 @@
 //! One file: readings and the hits of rays beside the oracle's, and beside the definitions; of large bodies the hits alone beside these.
 use crate::aim;
 use crate::calls::Calls;
-use crate::counts::Counts;
 use crate::found::Found;
-use crate::ids;
-use crate::mesh::Mesh;
-use crate::tally::Tally;
-use crate::trees::SCANNED;
 use crate::tried::Tried;
+use against::counts::Counts;
+use common::ids;
+use common::mesh::Mesh;
+use common::tally::Tally;
+use common::trees::SCANNED;
 use oracle::measures::Measures;
 
 /// Up to so many vertices everything is tried with everything.

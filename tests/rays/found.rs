@@ -1,5 +1,5 @@
 //! What is found of a part: its readings, what rays strike and whether they leave it; floats as their bits.
-use crate::ids::Id;
+use common::ids::Id;
 use oracle::math::{v3, Vec3};
 use oracle::measures::{self, Measures};
 use oracle::solid::FaceId;

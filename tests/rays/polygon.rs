@@ -1,20 +1,9 @@
 //! Areas, planes and centroids of polygons, as document 01 and the Rust have them.
-use crate::mesh::{Point, Polygon};
+use common::mesh::{Point, Polygon};
+use common::vector::{cross, dot, length, minus, normal_sum, plus, times};
 
 pub fn area(v: &[Point]) -> f64 {
     (1..v.len() - 1).fold(0.0, |sum, i| sum + length(cross(minus(v[i], v[0]), minus(v[i + 1], v[0]))) * 0.5)
-}
-
-/// Newell's sum, as `Polygon::new` forms it.
-fn normal_sum(v: &[Point]) -> Point {
-    let mut n = [0.0; 3];
-    for i in 0..v.len() {
-        let (a, b) = (v[i], v[(i + 1) % v.len()]);
-        n[0] += (a[1] - b[1]) * (a[2] + b[2]);
-        n[1] += (a[2] - b[2]) * (a[0] + b[0]);
-        n[2] += (a[0] - b[0]) * (a[1] + b[1]);
-    }
-    n
 }
 
 /// Normal and w.
@@ -35,28 +24,4 @@ pub fn centroid(v: &[Point]) -> Point {
 pub fn own_box(v: &[Point]) -> [Point; 2] {
     let most = |k: usize, f: fn(f64, f64) -> f64| v.iter().fold(v[0][k], |c, p| f(c, p[k]));
     [[0, 1, 2].map(|k| most(k, f64::min) - 1e-6 - 1e-9), [0, 1, 2].map(|k| most(k, f64::max) + 1e-6 + 1e-9)]
-}
-
-pub fn plus(a: Point, b: Point) -> Point {
-    [a[0] + b[0], a[1] + b[1], a[2] + b[2]]
-}
-
-pub fn minus(a: Point, b: Point) -> Point {
-    [a[0] - b[0], a[1] - b[1], a[2] - b[2]]
-}
-
-pub fn times(a: Point, s: f64) -> Point {
-    a.map(|c| c * s)
-}
-
-pub fn dot(a: Point, b: Point) -> f64 {
-    a[0] * b[0] + a[1] * b[1] + a[2] * b[2]
-}
-
-pub fn cross(a: Point, b: Point) -> Point {
-    [a[1] * b[2] - a[2] * b[1], a[2] * b[0] - a[0] * b[2], a[0] * b[1] - a[1] * b[0]]
-}
-
-pub fn length(v: Point) -> f64 {
-    dot(v, v).sqrt()
 }

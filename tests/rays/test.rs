@@ -1,46 +1,16 @@
 //! The readings, the hits of rays and whether lines leave a part against the Rust's scan with the same rule and against the definitions, bit by bit, and
 //! refusals 1 to 10. Takes generated files from standard input; with --quick there are fewer of the others.
-#[path = "../shapes/change.rs"]
-mod change;
-#[path = "../rules/counts.rs"]
-#[allow(dead_code)]
-mod counts;
-#[path = "../part/field.rs"]
-mod field;
-#[path = "../lib/gablemadder.rs"]
-mod gablemadder;
-#[path = "../rules/ids.rs"]
-#[allow(dead_code)]
-mod ids;
-#[path = "../shapes/mesh.rs"]
-mod mesh;
-#[path = "../lib/random.rs"]
-mod random;
-#[path = "../part/sample.rs"]
-mod sample;
-#[path = "../lib/scratch.rs"]
-mod scratch;
-#[path = "../shapes/shapes.rs"]
-mod shapes;
-#[path = "../lib/stream.rs"]
-mod stream;
-#[path = "../lib/tally.rs"]
-mod tally;
-
 mod aim;
-mod bores;
 mod calls;
 mod compare;
 mod found;
-mod large;
 mod polygon;
-mod trees;
 mod tried;
-mod walls;
 
+use common::mesh::Mesh;
+use common::random::Random;
+use common::{change, large, shapes, stream, trees, walls};
 use compare::Compare;
-use mesh::Mesh;
-use random::Random;
 use std::io;
 use std::thread;
 
@@ -99,7 +69,7 @@ fn own_shapes(c: &mut Compare, count: u64) {
 /// Parts of 9 to 4,096 polygons, each by its number alone, now and then changed.
 fn for_trees(c: &mut Compare, numbers: std::ops::Range<u64>) {
     for number in numbers {
-        let mut random = Random(Random(18).next() ^ Random(!number).next());
+        let mut random = Random::of(18, number);
         let mesh = trees::draw(&mut random);
         c.check(&mesh.bytes(), || format!("boxes {number}"));
         if random.below(8) == 0 {

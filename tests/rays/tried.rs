@@ -1,10 +1,11 @@
 //! Hits and readings by the words of document 01, with the rule of own boxes of document 02's item 7: each polygon is tried alone. Readings are for small
 //! bodies.
-use crate::counts::Counts;
 use crate::found::{Found, Hit, Sample};
-use crate::ids;
-use crate::mesh::{Mesh, Point};
-use crate::polygon::{area, centroid, cross, dot, minus, own_box, plane, plus, times};
+use crate::polygon::{area, centroid, own_box, plane};
+use against::counts::Counts;
+use common::ids;
+use common::mesh::{Mesh, Point};
+use common::vector::{cross, dot, minus, plus, times};
 
 const RAYS: f64 = 600.0;
 

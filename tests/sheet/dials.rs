@@ -1,13 +1,13 @@
 //! Parts of sheet metal that hang on one number.
-use crate::arrange;
-use crate::brackets::{Bracket, Hole, THICK};
-use crate::dial::{self, Dial};
-use crate::ids::Id;
-use crate::jobs;
-use crate::mesh::Mesh;
-use crate::random::Random;
-use crate::shapes::{block, pick};
-use crate::sheet::Run;
+use against::arrange;
+use against::dial::{self, Dial};
+use against::sheet::brackets::{Bracket, Hole, THICK};
+use against::sheet::jobs;
+use common::generate::sheet::Run;
+use common::ids::Id;
+use common::mesh::Mesh;
+use common::random::Random;
+use common::shapes::{block, pick};
 use oracle::faults::{Part, Process};
 
 fn of(bracket: Bracket, ends: [f64; 2], set: impl Fn(&mut Bracket, f64) + 'static) -> Dial {

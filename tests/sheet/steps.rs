@@ -1,6 +1,6 @@
 //! The way of the Rust's `sheet_metal`, step by step, to count what nearly happened at each.
-use crate::counts::Counts;
 use crate::wanted::Stock;
+use against::counts::Counts;
 use oracle::faults::DfmReport;
 use oracle::math::Vec3;
 use oracle::measures::{seg_distance, Measures, Round, Sample, Segments};

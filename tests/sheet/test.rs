@@ -1,87 +1,15 @@
-//! The check of bent parts against the patched Rust's (tests/check/compare.rs), with each rule of sheet metal at its limits, counted by the Rust's faults
+//! The check of bent parts against the patched Rust's (tests/against/compare.rs), with each rule of sheet metal at its limits, counted by the Rust's faults
 //! before it merges equal ones. Takes generated files from standard input; with --quick there are fewer of the others.
-#[path = "../rules/arrange.rs"]
-mod arrange;
-#[path = "../rays/bores.rs"]
-mod bores;
-#[path = "../shapes/change.rs"]
-mod change;
-#[path = "../check/compare.rs"]
-#[allow(dead_code)]
-mod compare;
-#[path = "../rules/counts.rs"]
-mod counts;
-#[path = "../rules/dial.rs"]
-mod dial;
-#[path = "../oracle/generate/draw.rs"]
-#[allow(dead_code)]
-mod draw;
-#[path = "../part/field.rs"]
-mod field;
-#[path = "../oracle/generate/file.rs"]
-mod file;
-#[path = "../oracle/generate/findings.rs"]
-mod findings;
-#[path = "../rules/frame.rs"]
-mod frame;
-#[path = "../lib/gablemadder.rs"]
-mod gablemadder;
-#[path = "../rules/ids.rs"]
-mod ids;
-#[path = "../oracle/generate/job.rs"]
-#[allow(dead_code)]
-mod job;
-#[path = "../lib/lent.rs"]
-mod lent;
-#[path = "../shapes/mesh.rs"]
-mod mesh;
-#[path = "../oracle/generate/part.rs"]
-#[allow(dead_code)]
-mod part;
-#[path = "../oracle/generate/plate.rs"]
-#[allow(dead_code)]
-mod plate;
-#[path = "../lib/random.rs"]
-mod random;
-#[path = "../oracle/generate/ring.rs"]
-#[allow(dead_code)]
-mod ring;
-#[path = "../part/sample.rs"]
-mod sample;
-#[path = "../lib/scratch.rs"]
-mod scratch;
-#[path = "../check/seen.rs"]
-#[allow(dead_code)]
-mod seen;
-#[path = "../shapes/shapes.rs"]
-mod shapes;
-#[path = "../oracle/generate/sheet.rs"]
-mod sheet;
-#[path = "../check/sizes.rs"]
-mod sizes;
-#[path = "../oracle/generate/space.rs"]
-#[allow(dead_code)]
-mod space;
-#[path = "../lib/stream.rs"]
-mod stream;
-#[path = "../lib/tally.rs"]
-mod tally;
-#[path = "../machining/voxels.rs"]
-#[allow(dead_code)]
-mod voxels;
-#[path = "../rays/walls.rs"]
-mod walls;
-
-mod brackets;
 mod dials;
-mod jobs;
-mod limits;
 mod steps;
 mod wanted;
 
-use frame::Files;
-use mesh::Mesh;
-use random::Random;
+use against::arrange;
+use against::frame::{self, Files};
+use against::sheet::{brackets, jobs, limits};
+use common::mesh::Mesh;
+use common::random::Random;
+use common::{change, shapes, voxels, walls};
 use wanted::Sheet;
 
 fn main() {
@@ -90,7 +18,7 @@ fn main() {
 
 fn own(c: &mut Files<Sheet>, quick: bool) {
     let (shapes, dials, rounds) = if quick { (1_000, 200, 1) } else { (40_000, 12_000, 2) };
-    own_shapes(c, shapes);
+    c.shapes(36, shapes, draw, changed);
     own_dials(c, dials);
     many_faults(c, rounds);
 }
@@ -129,16 +57,6 @@ fn draw(random: &mut Random) -> Mesh {
     arrange::arranged(random, &mut mesh);
     mesh.job = jobs::draw(random);
     mesh
-}
-
-fn own_shapes(c: &mut Files<Sheet>, count: u64) {
-    let mut random = Random(36);
-    for number in 0..count {
-        let mesh = draw(&mut random);
-        c.check(&mesh.bytes(), || format!("shape {number}"));
-        let changed = changed(&mut random, &mesh);
-        c.check(&changed.bytes(), || format!("shape {number}, changed"));
-    }
 }
 
 /// Parts one f64 to each side of a change.

@@ -1,11 +1,11 @@
 //! What the comparison is to see, and how often each of it occurs in a part.
-use crate::counts::{Counts, SMALL};
-use crate::field::word;
-use crate::frame::Rules;
-use crate::ids::Id;
-use crate::jobs;
-use crate::mesh::Mesh;
 use crate::steps::Steps;
+use against::counts::{Counts, SMALL};
+use against::frame::Rules;
+use against::sheet::jobs;
+use common::field::word;
+use common::ids::Id;
+use common::mesh::Mesh;
 use oracle::faults::{DfmReport, Finding, Part};
 use oracle::measures::Measures;
 use std::collections::HashSet;

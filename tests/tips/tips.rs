@@ -1,11 +1,11 @@
 //! Bores that are open on one side, with a conical tip: in the bore's face or apart, on the axis, within 1e-6 of it and one f64 beside that; and faces whose
 //! vertices all lie on the axis.
-use crate::bores::{arranged, gap, put, Axis, Frame, Wall, WORLD};
-use crate::field::{set_real, set_word};
-use crate::limits;
-use crate::mesh::{Mesh, Point, Polygon};
-use crate::random::Random;
-use crate::shapes::{pick, within};
+use against::machining::limits;
+use common::bores::{arranged, gap, put, Axis, Frame, Wall, WORLD};
+use common::field::{set_real, set_word};
+use common::mesh::{Mesh, Point, Polygon};
+use common::random::Random;
+use common::shapes::{pick, within};
 use oracle::faults::Part;
 use oracle::measures::Measures;
 use std::f64::consts::{PI, TAU};

@@ -1,10 +1,10 @@
 //! What the comparison is to see, and how often each of it occurs in a part. The hole rule stands here once more, over the offsets of every vertex, as it is and
 //! as it was when a vertex near the axis counted as (2^20, 0).
-use crate::counts::Counts;
-use crate::frame::Rules;
-use crate::ids::Id;
-use crate::mesh::Mesh;
 use crate::tips::NEAR;
+use against::counts::Counts;
+use against::frame::Rules;
+use common::ids::Id;
+use common::mesh::Mesh;
 use oracle::faults::{DfmReport, Part};
 use oracle::math::Vec3;
 use oracle::measures::{Measures, Round};
