@@ -4,9 +4,9 @@ use mathlib.Core.Bool.{true, false, not, _&&_}
 use mathlib.Core.List.{List}
 use Prim.Native.Nat.{ℕ, _^_, _<_}
 use native.Mathlib.Omega.{arith}
-use lib.Dec.{T, lit<, lit≤}
+use lib.Dec.{lit<, lit≤}
 use lib.ListN.{length}
-use lib.Ieee.{Float, binary64, fits, add, sub, neg, lt, le, eq, ofBits}
+use lib.Ieee.{Float, binary64, add, sub, lt, le, eq, ofBits}
 use borrow.Author.Tests.{not-true}
 use Rattle.num_float.specs.Sign.{NonNeg}
 use Rattle.num_float.specs.Units.{minus-sign}
@@ -16,45 +16,31 @@ use Rattle.num_float.proofs.NonNegative.{finite-number, zero-finite}
 use Rattle.num_float.proofs.Order.{not-lt-le}
 use Rattle.num_float.proofs.Sign.{add-nonneg}
 use Rattle.num_float.proofs.Within.{held-small, add-within, sub-within, div-within}
-use Rattle.math.specs.Vector.{one, times, dotOf}
+use Rattle.math.specs.Vector.{dotOf}
 use Rattle.math.specs.Vector as vector
-use Rattle.math.specs.Size.{VecWithin}
 use Rattle.file_part.specs.Part.{Part, partOf}
 use Rattle.file_part.proofs.PartLaws.{part-polygons}
-use Rattle.solid_polygon.specs.Polygon.{centroidOf}
-use Rattle.solid_faces.specs.Faces.{polygonCorner, polygonPlane, Checked}
+use Rattle.solid_faces.specs.Faces.{polygonPlane, Checked}
 use Rattle.solid_sizes.specs.Sizes.{PlaneWithin}
-use Rattle.solid_sizes.proofs.Vectors.{plus-within, times-within, dot-within}
+use Rattle.solid_sizes.proofs.Vectors.{dot-within}
 use Rattle.solid_sizes.proofs.Planes.{checked-plane}
-use Rattle.solid_sizes.proofs.Opposite.{dot-opposite, opposite-half}
 use Rattle.solid_sizes.proofs.Above.{add-beyond, beyond-above}
 use Rattle.wall_ray.specs.declared.strike.Hit.the-variants.{At}
 use Rattle.wall_ray.specs.Slab.{reachedIn}
 use Rattle.wall_ray.specs.Strike.{isParallel, timeOf, hitTime, isInside, crosses, ownSpan, struck}
 use Rattle.wall_ray.specs.Nearest.{hitOf}
-use Rattle.wall_samples.specs.Samples.{e-6, polygonCentroid, inward, rayOf, facesBack, readingsOf}
+use Rattle.wall_samples.specs.Samples.{e-6, inward, rayOf, facesBack, readingsOf}
 use Rattle.wall_samples.specs.Stored.{reading}
+use Rattle.wall_samples.proofs.RayLaws.{e-6-within, e-6-fits, origin-within, denominator-beyond}
 use Rattle.wall_samples.proofs.ReadingLaws.{readings-each}
 use Rattle.measure_sizes.specs.Reading.{ReadingBounds}
 use Rattle.measure_sizes.specs.Work.{ReadingWithin}
 use Rattle.wall_ray.proofs.NearestLaws.{hit-struck}
 
 -- ---- the constants
-minus-one-within : Within (neg one) 1
-unfolding neg ofBits
-minus-one-within = record { is-finite = tt; size = lit≤ tt }
-
-e-6-within : Within e-6 1
-unfolding ofBits
-e-6-within = record { is-finite = tt; size = lit≤ tt }
-
 e-6-beyond : Beyond e-6 (2 ^ 20)
 unfolding ofBits
 e-6-beyond = record { is-finite = tt; size = lit≤ tt }
-
-e-6-fits : T (fits binary64 e-6)
-unfolding ofBits fits
-e-6-fits = tt
 
 e-6-plus : minus-sign e-6 ≡ false
 unfolding ofBits
@@ -66,38 +52,19 @@ e-6-nonneg = refl
 
 -- ---- one ray, from polygon p to polygon q
 module _ (t : Part) (p q : ℕ) (from : PlaneWithin t p) (to : PlaneWithin t q) where
-  dir-within : VecWithin (inward t p) 1
-  unfolding inward
-  dir-within = times-within (polygonPlane t p .normal) (neg one) 1 1 1 (from .normal) minus-one-within (lit≤ tt) (held-small 1 (lit< tt))
-
-  origin-within : VecWithin (rayOf t p .origin) 10002
-  unfolding rayOf polygonCentroid
-  origin-within =
-      plus-within (centroidOf (polygonCorner t p) (t .polygon p .count)) (times (inward t p) e-6) 10001 1 10002 (from .centroid)
-      (times-within (inward t p) e-6 1 1 1 dir-within e-6-within (lit≤ tt) (held-small 1 (lit< tt))) (lit≤ tt) (held-small 10002 (lit< tt))
-
   top-within : Within (sub binary64 (polygonPlane t q .w) (dotOf (polygonPlane t q .normal) (rayOf t p .origin))) 60006
   top-within =
       sub-within (polygonPlane t q .w) (dotOf (polygonPlane t q .normal) (rayOf t p .origin)) 30000 30006 60006 (to .w)
-      (dot-within (polygonPlane t q .normal) (rayOf t p .origin) 1 10002 10002 (to .normal) origin-within (lit≤ tt) (held-small 10002 (lit< tt))
+      (dot-within (polygonPlane t q .normal) (rayOf t p .origin) 1 10002 10002 (to .normal) (origin-within t p from) (lit≤ tt) (held-small 10002 (lit< tt))
       20004 30006 (lit≤ tt) (held-small 20004 (lit< tt)) (lit≤ tt) (held-small 30006 (lit< tt)))
       (lit≤ tt) (held-small 60006 (lit< tt))
-
-  -- the hit faces back, with a dot under -0.5: the ray's own denominator is at least 0.5 in size
-  denom-beyond : facesBack t p q ≡ true → Beyond (dotOf (polygonPlane t q .normal) (inward t p)) 2
-  unfolding facesBack inward
-  denom-beyond h =
-      opposite-half (dotOf (polygonPlane t q .normal) (polygonPlane t p .normal)) (dotOf (polygonPlane t q .normal) (times (polygonPlane t p .normal) (neg one)))
-      (dot-opposite (polygonPlane t q .normal) (polygonPlane t p .normal) 1 1 1 2 3 (to .normal) (from .normal)
-      (from .normal-fits .x-fits) (from .normal-fits .y-fits) (from .normal-fits .z-fits)
-      (lit≤ tt) (held-small 1 (lit< tt)) (lit≤ tt) (held-small 2 (lit< tt)) (lit≤ tt) (held-small 3 (lit< tt))) h
 
   time-within : facesBack t p q ≡ true → Within (hitTime t (rayOf t p) q) 120012
   unfolding hitTime timeOf rayOf
   time-within h =
       div-within (sub binary64 (polygonPlane t q .w) (dotOf (polygonPlane t q .normal) (rayOf t p .origin)))
       (dotOf (polygonPlane t q .normal) (inward t p)) 60006 2 120012
-      top-within (denom-beyond h) (lit≤ tt) (held-small 120012 (lit< tt))
+      top-within (denominator-beyond t p from q to h) (lit≤ tt) (held-small 120012 (lit< tt))
 
   -- t is not below 0, and no NaN
   time-nonneg : facesBack t p q ≡ true → struck t (rayOf t p) q ≡ true → NonNeg (hitTime t (rayOf t p) q)

@@ -1,0 +1,3 @@
+-- How far a thickness reading can be off.
+pub mod Error
+pub mod Work
