@@ -13,6 +13,7 @@ pub mod large;
 pub mod many;
 pub mod mesh;
 pub mod obj_reader;
+pub mod polygon;
 pub mod random;
 pub mod reader;
 pub mod sample;

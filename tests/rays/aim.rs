@@ -1,6 +1,6 @@
 //! Rays for a body: at random, and at what is hard: vertices, sides and the tolerance beside them, along faces, sides and the bounds of boxes, from a face
 //! itself, through a box beside its polygon, with zeros of both signs, and numbers that no caller should pass.
-use crate::polygon::{centroid, own_box, plane};
+use common::polygon::{centroid, own_box, plane};
 use common::field::ODD;
 use common::mesh::{Mesh, Point, Polygon};
 use common::random::Random;

@@ -4,7 +4,6 @@ mod aim;
 mod calls;
 mod compare;
 mod found;
-mod polygon;
 mod tried;
 
 use common::mesh::Mesh;

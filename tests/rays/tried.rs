@@ -1,7 +1,7 @@
 //! Hits and readings by the words of document 01, with the rule of own boxes of document 02's item 7: each polygon is tried alone. Readings are for small
 //! bodies.
 use crate::found::{Found, Hit, Sample};
-use crate::polygon::{area, centroid, own_box, plane};
+use common::polygon::{area, centroid, own_box, plane};
 use against::counts::Counts;
 use common::ids;
 use common::mesh::{Mesh, Point};

@@ -2,7 +2,7 @@
 use mathlib.Core.Path.{_≡_, refl, sym, ap, _∙_, subst}
 use mathlib.Core.Bool.{Bool, true, false, cond}
 use mathlib.Core.List.{List, _++_}
-use Prim.Native.Nat.{ℕ, _≤_, min}
+use Prim.Native.Nat.{ℕ, _≤_, _<_, min}
 use native.Mathlib.Omega.{arith}
 use lib.Dec.{eqb, leb}
 use lib.ListN.{length, drop}
@@ -10,7 +10,13 @@ use lib.Ieee.{Float}
 use borrow.Author.Tests.{eqb-true, eqb-false}
 use Rattle.num_float.proofs.Tests.{contrary}
 use Rattle.file_part.specs.Part.{partOf}
+use Rattle.solid_faces.specs.Faces.{Checked}
 use Rattle.scratch.specs.Refusal.{bodyRefusal}
+use Rattle.scratch.proofs.RefusalLaws.{put-checked}
+use Rattle.wall_samples.specs.Samples.{readingsOf}
+use Rattle.wall_samples.specs.Stored.{reading}
+use Rattle.wall_error.specs.Error.{ReadingFacing, ReadingNear, leastDot, precision, keptPrecision}
+use Rattle.wall_error.proofs.Readings.{readings-near, readings-nearer}
 use Rattle.fault_row.specs.declared.row.FaultRow.{FaultRow}
 use Rattle.fault_lines.specs.Line.{Line}
 use Rattle.fault_lines.specs.Lines.{linesOf}
@@ -53,6 +59,11 @@ by-length true true false q n e = absurd (contrary e refl)
 by-length true false fit q n e = absurd (contrary e refl)
 by-length false few fit q n e = absurd (contrary e refl)
 
+by-good : (good few fit : Bool) (q n : ℕ) → eqb q 0 ≡ good → isAccepted (answerBy good few fit q n) ≡ true → q ≡ 0
+unfolding answerBy isAccepted
+by-good true few fit q n t e = eqb-true q 0 t
+by-good false few fit q n t e = absurd (contrary e refl)
+
 zero-of : (r : Answer) → isAccepted r ≡ true → numberOf r ≡ 0
 unfolding numberOf isAccepted
 zero-of (Accepted n) e = refl
@@ -93,6 +104,22 @@ module _ {s words words′ : List ℕ} {reals reals′ : List Float} {rows rows�
 
   pub report-length : isAccepted r ≡ true → lengthOf r ≡ length (reportOf (partOf s))
   report-length ok = ap lengthOf is ∙ by-length _ _ _ _ _ (ap isAccepted (sym is) ∙ ok)
+
+  -- ---- the readings that an accepted check keeps: item 11 of document 02
+  pub accepted-checked : isAccepted r ≡ true → Checked s
+  accepted-checked ok =
+      put-checked s (length words) (length reals) _ refl (by-good _ _ _ (bodyRefusal s (length words) (length reals)) _ refl (ap isAccepted (sym is) ∙ ok))
+
+  -- "Where normal and direction have an exact dot product of at least 0.02 in size, the reading differs from the exact distance along the ray to that
+  -- plane, plus the exact f64 1e-6, by less than 1e-7 mm"
+  pub reading-near : isAccepted r ≡ true → (k : ℕ) → k < length (readingsOf (partOf s)) →
+      ReadingFacing leastDot (partOf s) (reading (readingsOf (partOf s)) k) → ReadingNear precision (partOf s) (reading (readingsOf (partOf s)) k)
+  reading-near ok = readings-near s (accepted-checked ok)
+
+  -- and each by less than 1e-9 mm, with no condition
+  pub reading-nearer : isAccepted r ≡ true → (k : ℕ) → k < length (readingsOf (partOf s)) →
+      ReadingNear keptPrecision (partOf s) (reading (readingsOf (partOf s)) k)
+  reading-nearer ok = readings-nearer s (accepted-checked ok)
 
 -- ---- the outcome: the only one of a call
 module _ {s words words1 words2 : List ℕ} {reals reals1 reals2 : List Float} {rows rows1 rows2 : List FaultRow}

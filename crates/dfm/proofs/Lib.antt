@@ -8,6 +8,7 @@
 -- Demands, for readers: what an outcome says
 --   answer-number, accepted-zero, zero-accepted         the number of an answer
 --   report-alone, report-length                         the report is the file's alone
+--   reading-near, reading-nearer                        how far the readings of an accepted check are off
 --   outcome-only            the outcome is the only one of a call
 pub mod OutcomeLaws
 pub mod Leaves

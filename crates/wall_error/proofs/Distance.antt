@@ -20,12 +20,12 @@ use Rattle.num_error.proofs.Terms.{close-wider, add-close, sub-close}
 use Rattle.num_error.proofs.Quotient.{div-close}
 use Rattle.math.specs.declared.Vec3.{Vec3}
 use Rattle.math.specs.Vector.{dotOf}
-use Rattle.wall_error.specs.Work.{VecBounded, dotAbove, dotBelow, productError, firstError, lastError, dotError, topError, quotientError, growingError, timeError, sumError, Room}
+use Rattle.wall_error.specs.Work.{VecBounded, dotAbove, dotBelow, productError, firstError, lastError, dotError, longest, topError, quotientError, growingError, timeError, sumError, Room}
 use Rattle.wall_error.proofs.Parts.{rounded-beyond, sum-close, less, growing}
 use Rattle.wall_error.proofs.Dot.{dot-bounded, dot-close, part, dot-closer, dir-room, start-room}
 
 module _ (n o d : Vec3) (w e : Float) (N : VecBounded n 1) (O : VecBounded o 10002) (D : VecBounded d 1) (W : Bounded w 30000) (E : Bounded e 1)
-    (least longest precision : ℕ) (room : Room least longest precision) (far : scale * scale ≤ least * gap (dotAbove n d) (dotBelow n d)) where
+    (least precision : ℕ) (room : Room least precision) (far : scale * scale ≤ least * gap (dotAbove n d) (dotBelow n d)) where
   -- the exact w - n . o is topAbove - topBelow, at the scale 2^2148
   abbrev pub topAbove : ℕ
   topAbove = above w * scale + dotBelow n o
@@ -67,10 +67,10 @@ module _ (n o d : Vec3) (w e : Float) (N : VecBounded n 1) (O : VecBounded o 100
   abbrev time : Float
   time = div binary64 top bottom
 
-  bounded-time : Bounded time longest
+  bounded-time : Bounded time (longest least)
   bounded-time = record {
     fit = div-fits binary64 top bottom;
-    within = div-within top bottom 60006 (least + 1) longest (bounded-top .within) beyond-bottom (room .distance) (held-small longest (shorter longest (room .short)));
+    within = div-within top bottom 60006 (least + 1) (longest least) (bounded-top .within) beyond-bottom (le-refl (longest least)) (held-small (longest least) (shorter (longest least) (room .short)));
   }
     where
       shorter : (k : ℕ) → k + 1 < 2 ^ 53 → k < 2 ^ 53
@@ -108,32 +108,32 @@ module _ (n o d : Vec3) (w e : Float) (N : VecBounded n 1) (O : VecBounded o 100
           go q r e = omega arith
 
   time-close : Close (above time * dotAbove n d + below time * dotBelow n d) (above time * dotBelow n d + below time * dotAbove n d)
-      (topAbove * scale) (topBelow * scale) (timeError longest)
+      (topAbove * scale) (topBelow * scale) (timeError least)
   time-close =
       close-wider (above time * dotAbove n d + below time * dotBelow n d) (above time * dotBelow n d + below time * dotAbove n d) (topAbove * scale) (topBelow * scale)
-      (units time * dotError 1 (units bottom / 2 ^ 53 + 2 ^ 970) + quotientError * scale + topError * scale) (timeError longest)
+      (units time * dotError 1 (units bottom / 2 ^ 53 + 2 ^ 970) + quotientError * scale + topError * scale) (timeError least)
       (div-close top bottom topAbove topBelow (dotAbove n d) (dotBelow n d) topError (dotError 1 (units bottom / 2 ^ 53 + 2 ^ 970)) quotientError
       (bounded-top .fit) (bounded-bottom .fit) (bounded-top .within .is-finite) (bounded-bottom .within .is-finite) above-bottom (bounded-time .within .is-finite)
       quotient-room top-close (dot-closer n d 1 N D dir-room (lit≤ tt)))
       (add-le-add (add-le-add
-      (growing (units time) (units bottom / 2 ^ 53) (productError 1 + productError 1 + firstError 1 * scale + productError 1) (2 ^ 970) longest growingError scale
-      (bounded-units time longest bounded-time) part-small)
+      (growing (units time) (units bottom / 2 ^ 53) (productError 1 + productError 1 + firstError 1 * scale + productError 1) (2 ^ 970) (longest least) growingError scale
+      (bounded-units time (longest least) bounded-time) part-small)
       (le-refl (quotientError * scale))) (le-refl (topError * scale)))
 
   -- ---- the reading, t + e
   abbrev pub reading : Float
   reading = add binary64 time e
 
-  pub bounded-reading : Bounded reading (longest + 1)
+  pub bounded-reading : Bounded reading (longest least + 1)
   bounded-reading = record {
     fit = add-fits binary64 time e;
-    within = add-within time e longest 1 (longest + 1) (bounded-time .within) (E .within) (le-refl (longest + 1)) (held-small (longest + 1) (room .short));
+    within = add-within time e (longest least) 1 (longest least + 1) (bounded-time .within) (E .within) (le-refl (longest least + 1)) (held-small (longest least + 1) (room .short));
   }
 
-  reading-close : Close (above reading) (below reading) (above time + above e) (below time + below e) (sumError longest)
+  reading-close : Close (above reading) (below reading) (above time + above e) (below time + below e) (sumError least)
   reading-close =
-      add-close time e (longest * scale) (1 * scale) (sumError longest) (bounded-time .fit) (E .fit) (bounded-time .within .is-finite) (E .within .is-finite)
-      (bounded-reading .within .is-finite) (bounded-units time longest bounded-time) (bounded-units e 1 E) (room .sum)
+      add-close time e (longest least * scale) (1 * scale) (sumError least) (bounded-time .fit) (E .fit) (bounded-time .within .is-finite) (E .within .is-finite)
+      (bounded-reading .within .is-finite) (bounded-units time (longest least) bounded-time) (bounded-units e 1 E) (room .sum)
 
   -- the reading less e, times n . d, differs from w - n . o by less than 1 / precision of n . d
   pub reading-error : gap ((above reading + below e) * dotAbove n d + (below reading + above e) * dotBelow n d + topBelow * scale)
@@ -143,5 +143,5 @@ module _ (n o d : Vec3) (w e : Float) (N : VecBounded n 1) (O : VecBounded o 100
       lt-of-le-of-lt
       (mul-le-mul-right precision
       (sum-close (above reading) (below reading) (above time) (below time) (above e) (below e) (dotAbove n d) (dotBelow n d) (topAbove * scale) (topBelow * scale)
-      (sumError longest) (timeError longest) reading-close time-close))
-      (less least precision (gap (dotAbove n d) (dotBelow n d)) scale (scale * scale) (sumError longest) (timeError longest) _ far (room .rest) (room .error))
+      (sumError least) (timeError least) reading-close time-close))
+      (less least precision (gap (dotAbove n d) (dotBelow n d)) scale (scale * scale) (sumError least) (timeError least) _ far (room .rest) (room .error))

@@ -20,17 +20,17 @@ use Rattle.wall_ray.specs.Strike.{timeOf}
 use Rattle.wall_samples.specs.Samples.{e-6}
 use Rattle.wall_samples.proofs.RayLaws.{e-6-within, e-6-fits}
 use Rattle.wall_error.specs.Error.{exactDot, exactDistance, Facing, Near, Numbers, leastDot, precision, keptDot, keptPrecision}
-use Rattle.wall_error.specs.Work.{VecBounded, dotAbove, dotBelow, lastError, dotError, Room}
+use Rattle.wall_error.specs.Work.{VecBounded, dotAbove, dotBelow, lastError, dotError, longest, Room}
 use Rattle.wall_error.proofs.Parts.{beyond-units, part-gap, half-enough}
 use Rattle.wall_error.proofs.Dot.{dot-is, dot-bounded, dot-close, dir-room}
 use Rattle.wall_error.proofs.Distance.{topAbove, topBelow, bounded-reading, reading-error}
 
--- ---- the figures: with a dot product of at least 0.02 t is at most 60,006 * 51, with one of at least 1 / 3 at most 60,006 * 4
-pub asked : Room leastDot 3060306 precision
-asked = record { some = lit< tt; short = lit< tt; denominator = lit≤ tt; distance = lit≤ tt; sum = lit≤ tt; rest = lit≤ tt; error = lit< tt }
+-- ---- the figures: what is asked, and what kept readings have
+pub asked : Room leastDot precision
+asked = record { some = lit< tt; short = lit< tt; denominator = lit≤ tt; sum = lit≤ tt; rest = lit≤ tt; error = lit< tt }
 
-pub kept : Room keptDot 240024 keptPrecision
-kept = record { some = lit< tt; short = lit< tt; denominator = lit≤ tt; distance = lit≤ tt; sum = lit≤ tt; rest = lit≤ tt; error = lit< tt }
+pub kept : Room keptDot keptPrecision
+kept = record { some = lit< tt; short = lit< tt; denominator = lit≤ tt; sum = lit≤ tt; rest = lit≤ tt; error = lit< tt }
 
 -- ---- numbers of bounded size are numbers
 pub number : (x : Float) (b : ℕ) → Bounded x b → Number x
@@ -66,7 +66,7 @@ half-facing s r N D h =
 
 -- ---- a plane and a ray
 module _ (s : Plane) (r : Ray) (N : VecBounded (s .normal) 1) (W : Bounded (s .w) 30000) (O : VecBounded (r .origin) 10002) (D : VecBounded (r .dir) 1)
-    (least longest precision : ℕ) (room : Room least longest precision) (far : Facing least s r) where
+    (least precision : ℕ) (room : Room least precision) (far : Facing least s r) where
   abbrev n : Vec3
   n = s .normal
 
@@ -82,10 +82,10 @@ module _ (s : Plane) (r : Ray) (N : VecBounded (s .normal) 1) (W : Bounded (s .w
   far-enough = subst (λ (k : ℕ). scale * scale ≤ least * k) (dot-size n d) far
 
   abbrev plusTop : ℕ
-  plusTop = topAbove n (r .origin) d (s .w) e-6 N O D W e-6-bounded least longest precision room far-enough
+  plusTop = topAbove n (r .origin) d (s .w) e-6 N O D W e-6-bounded least precision room far-enough
 
   abbrev minusTop : ℕ
-  minusTop = topBelow n (r .origin) d (s .w) e-6 N O D W e-6-bounded least longest precision room far-enough
+  minusTop = topBelow n (r .origin) d (s .w) e-6 N O D W e-6-bounded least precision room far-enough
 
   to-plane-is : Is toPlane plusTop minusTop
   to-plane-is =
@@ -108,13 +108,13 @@ module _ (s : Plane) (r : Ray) (N : VecBounded (s .normal) 1) (W : Bounded (s .w
 
   pub plane-reading : Number reading
   unfolding timeOf
-  plane-reading = number reading (longest + 1) (bounded-reading n (r .origin) d (s .w) e-6 N O D W e-6-bounded least longest precision room far-enough)
+  plane-reading = number reading (longest least + 1) (bounded-reading n (r .origin) d (s .w) e-6 N O D W e-6-bounded least precision room far-enough)
 
   error : gap ((above reading + below e-6) * dotAbove n d + (below reading + above e-6) * dotBelow n d + minusTop * scale)
       ((above reading + below e-6) * dotBelow n d + (below reading + above e-6) * dotAbove n d + plusTop * scale) * precision
       < gap (dotAbove n d) (dotBelow n d) * scale
   unfolding timeOf
-  error = reading-error n (r .origin) d (s .w) e-6 N O D W e-6-bounded least longest precision room far-enough
+  error = reading-error n (r .origin) d (s .w) e-6 N O D W e-6-bounded least precision room far-enough
 
   pub plane-near : Near precision reading e-6 (exactDistance s r)
   unfolding Near exactDistance

@@ -58,15 +58,15 @@ module _ (t : Part) (p q : ℕ) (from : PlaneWithin t p) (to : PlaneWithin t q) 
       w-fits = unfold polygonPlane in unfold planeOf in unfold dotOf in add-fits binary64 _ _
 
   -- any strike, kept or not, whatever the test by which a polygon is struck: the reading that it would give
-  pub strike-near : (least longest precision : ℕ) → Room least longest precision → Facing least (polygonPlane t q) (rayOf t p) →
+  pub strike-near : (least precision : ℕ) → Room least precision → Facing least (polygonPlane t q) (rayOf t p) →
       ReadingNear precision t (record { polygon = p; hit = q; thickness = add binary64 (timeOf (polygonPlane t q) (rayOf t p)) e-6 })
-  strike-near least longest precision room far = record {
+  strike-near least precision room far = record {
     normal = numbers (polygonPlane t q .normal) 1 normal-bounded;
     plane-number = number (polygonPlane t q .w) 30000 w-bounded;
     start = numbers (rayOf t p .origin) 10002 origin-bounded;
     direction = numbers (rayOf t p .dir) 1 dir-bounded;
-    thickness = plane-reading (polygonPlane t q) (rayOf t p) normal-bounded w-bounded origin-bounded dir-bounded least longest precision room far;
-    near = plane-near (polygonPlane t q) (rayOf t p) normal-bounded w-bounded origin-bounded dir-bounded least longest precision room far;
+    thickness = plane-reading (polygonPlane t q) (rayOf t p) normal-bounded w-bounded origin-bounded dir-bounded least precision room far;
+    near = plane-near (polygonPlane t q) (rayOf t p) normal-bounded w-bounded origin-bounded dir-bounded least precision room far;
   }
 
   -- a hit that faces back
@@ -82,9 +82,9 @@ module _ (s : List ℕ) (h : Checked s) where
   plane : (p : ℕ) → p < t .polygons → PlaneWithin t p
   plane p l = checked-plane s h p (omega (arith, l, part-polygons s))
 
-  by-room : (least longest precision : ℕ) → Room least longest precision → (k : ℕ) → k < length (readingsOf t) →
+  by-room : (least precision : ℕ) → Room least precision → (k : ℕ) → k < length (readingsOf t) →
       ReadingFacing least t (reading (readingsOf t) k) → ReadingNear precision t (reading (readingsOf t) k)
-  by-room least longest precision room = readings-each t (λ (r : Reading). ReadingFacing least t r → ReadingNear precision t r) hit
+  by-room least precision room = readings-each t (λ (r : Reading). ReadingFacing least t r → ReadingNear precision t r) hit
     where
       hit : (p q : ℕ) (x : Float) → p < t .polygons → hitOf t (rayOf t p) ≡ At q x → facesBack t p q ≡ true →
           ReadingFacing least t (record { polygon = p; hit = q; thickness = add binary64 x e-6 }) →
@@ -93,12 +93,12 @@ module _ (s : List ℕ) (h : Checked s) where
           let k = hit-struck t (rayOf t p) q x e in
           let is : x ≡ timeOf (polygonPlane t q) (rayOf t p) = unfold hitTime in k .2 in
           subst (λ (y : Float). ReadingNear precision t (record { polygon = p; hit = q; thickness = add binary64 y e-6 })) (sym is)
-          (strike-near t p q (plane p l) (plane q (k .0)) least longest precision room (unfold ReadingFacing in far))
+          (strike-near t p q (plane p l) (plane q (k .0)) least precision room (unfold ReadingFacing in far))
 
   -- "Where normal and direction have an exact dot product of at least 0.02 in size, the reading differs from the exact distance along the ray to that
   -- plane, plus the exact f64 1e-6, by less than 1e-7 mm"
   pub readings-near : (k : ℕ) → k < length (readingsOf t) → ReadingFacing leastDot t (reading (readingsOf t) k) → ReadingNear precision t (reading (readingsOf t) k)
-  readings-near = by-room leastDot 3060306 precision asked
+  readings-near = by-room leastDot precision asked
 
   -- every reading has a dot product of at least 1 / 3, since its hit faces back
   pub readings-facing : (k : ℕ) → k < length (readingsOf t) → ReadingFacing keptDot t (reading (readingsOf t) k)
@@ -117,7 +117,7 @@ module _ (s : List ℕ) (h : Checked s) where
 
   -- and each reading is off by less than 1e-9 mm
   pub readings-nearer : (k : ℕ) → k < length (readingsOf t) → ReadingNear keptPrecision t (reading (readingsOf t) k)
-  readings-nearer k l = by-room keptDot 240024 keptPrecision kept k l (readings-facing k l)
+  readings-nearer k l = by-room keptDot keptPrecision kept k l (readings-facing k l)
 
   -- and as a check keeps them: in the lent scratch, where the readings are put
   pub stored-nearer : (at : Regions) (words : List ℕ) (reals : List Float) → Readings t at words reals → (k : ℕ) → k < length (readingsOf t) →

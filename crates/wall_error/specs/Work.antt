@@ -40,8 +40,12 @@ pub record DotRoom (k : ℕ) : Type 0 where
   pub first : k * scale + k * scale + 2 ^ 52 ≤ firstError k * 2 ^ 53
   pub last : 2 * k * scale + k * scale + 2 ^ 52 ≤ lastError k * 2 ^ 53
 
--- ---- the errors of t = (w - n . o) / (n . d), for n and d within 1, o within 10,002, w within 30,000, and t within longest
--- of w - n . o, which is within 60,006, at the scale 2^2148
+-- ---- the errors of t = (w - n . o) / (n . d), for n and d within 1, o within 10,002, w within 30,000 and n . d of at least 1 / least
+-- w - n . o is within 60,006, and the rounded n . d at least 1 / (least + 1), so t is at most this
+abbrev pub longest : ℕ → ℕ
+longest least = 60006 * (least + 1)
+
+-- of w - n . o, at the scale 2^2148
 abbrev pub topError : ℕ
 topError = dotError 10002 (lastError 10002) + (60006 * 2 ^ 1021 + 1) * scale
 
@@ -55,18 +59,17 @@ growingError = 60007 * 2 ^ 2095
 
 -- of all these, at the scale 2^3222
 abbrev pub timeError : ℕ → ℕ
-timeError longest = longest * scale * dotError 1 (2 ^ 970) + growingError * scale + quotientError * scale + topError * scale
+timeError least = longest least * scale * dotError 1 (2 ^ 970) + growingError * scale + quotientError * scale + topError * scale
 
 -- of the last sum, t + e, at the scale 2^1074
 abbrev pub sumError : ℕ → ℕ
-sumError longest = (longest + 1) * 2 ^ 1021 + 1
+sumError least = (longest least + 1) * 2 ^ 1021 + 1
 
--- what the errors leave room for: with a dot product of at least 1 / least, t is at most longest, and t + e is off by less than 1 / precision
-pub record Room (least longest precision : ℕ) : Type 0 where
+-- what the errors leave room for: with a dot product of at least 1 / least, t + e is off by less than 1 / precision
+pub record Room (least precision : ℕ) : Type 0 where
   pub some : 0 < least
-  pub short : longest + 1 < 2 ^ 53
+  pub short : longest least + 1 < 2 ^ 53
   pub denominator : least * (least + 1) * dotError 1 (lastError 1) ≤ scale * scale
-  pub distance : 60006 * (least + 1) ≤ longest
-  pub sum : (longest * scale + 1 * scale) + 2 ^ 52 ≤ sumError longest * 2 ^ 53
-  pub rest : scale - sumError longest * precision + sumError longest * precision ≤ scale
-  pub error : timeError longest * precision * least < scale * scale * (scale - sumError longest * precision)
+  pub sum : longest least * scale + 1 * scale + 2 ^ 52 ≤ sumError least * 2 ^ 53
+  pub rest : scale - sumError least * precision + sumError least * precision ≤ scale
+  pub error : timeError least * precision * least < scale * scale * (scale - sumError least * precision)

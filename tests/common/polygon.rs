@@ -1,6 +1,6 @@
 //! Areas, planes and centroids of polygons, as document 01 and the Rust have them.
-use common::mesh::{Point, Polygon};
-use common::vector::{cross, dot, length, minus, normal_sum, plus, times};
+use crate::mesh::{Point, Polygon};
+use crate::vector::{cross, dot, length, minus, normal_sum, plus, times};
 
 pub fn area(v: &[Point]) -> f64 {
     (1..v.len() - 1).fold(0.0, |sum, i| sum + length(cross(minus(v[i], v[0]), minus(v[i + 1], v[0]))) * 0.5)
