@@ -53,7 +53,8 @@ impl Settings {
         }
     }
 
-    /// What is not set follows the process, as the Rust's `PrintSettings::defaults` has it; nozzle and overhang only where it has a use for them.
+    /// What is not set follows the process, as `PrintSettings::defaults` of crates/file_job has it, to which tests/command/defaults.py holds this; nozzle and
+    /// overhang only where it has a use for them.
     fn with_defaults(mut self) -> Settings {
         let Some(process) = self.process else {
             return self;
