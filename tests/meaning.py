@@ -23,6 +23,11 @@ def crates():
         return [line.split(':')[0] for line in f if ':' in line and not line.startswith('#')]
 
 
+def type_of(module):
+    """The struct or enum of src/ that a module declares, or whose variants it has."""
+    return module.removesuffix('.the-variants').split('.')[-1]
+
+
 class Module:
     """A file of specs/: what it names of others, and its definitions, each the lines from its comment on."""
 
@@ -75,7 +80,7 @@ class Module:
             name = name.strip()
             if module.startswith('declared.'):
                 # a struct or an enum of src/, or a variant of one
-                self.types[name] = (crate, module.removesuffix('.the-variants').split('.')[-1])
+                self.types[name] = (crate, type_of(module))
             else:
                 self.names[name] = (crate, module)
 
@@ -85,7 +90,9 @@ class Module:
         for word in WORD.findall(text):
             head, _, tail = word.partition('.')
             if tail and head in self.aliases:
-                yield 'def', self.aliases[head] + (tail,)
+                crate, module = self.aliases[head]
+                # a variant of an enum of src/, or a definition
+                yield ('type', (crate, type_of(module))) if module.startswith('declared.') else ('def', (crate, module, tail))
             if head in self.names:
                 yield 'def', self.names[head] + (head,)
             elif head in self.types:

@@ -15,16 +15,8 @@ RUST = "bindings/rust/src/"
 C_TYPES = {"u8": "uint8_t", "u32": "uint32_t", "u64": "uint64_t", "usize": "size_t", "f64": "double"}
 # the one struct that the library's functions take: its name in C and in the Rust package
 C_ROW, RUST_ROW = "gablemadder_fault_row", "FaultRow"
-# the names of the refusals that no enum of the source has, each with where its number stands, in code or in a definition
-OTHERS = {
-    "TooLittleScratch": ("crates/scratch/src/refusal.rt", r"\(words < at\.words\) \| \(reals < at\.reals\) \{\s*return (\d+);"),
-    "TooManyFaults": ("crates/dfm*/specs/*.antt", r"\(Refused \d+\)\) \(Refused (\d+)\)\)"),
-    "ReportTooLong": ("crates/dfm*/specs/*.antt", r"\(Refused (\d+)\)\) \(Refused \d+\)\)"),
-    "NoDecimal": ("crates/exports/src/texts.rt", r"Answer::Refused => (\d+)"),
-    "BadLine": ("crates/obj_text/specs/Text.antt", r"refusalFrom n \(other ∷ fs\) = (\d+)"),
-    "UndefinedVertex": ("crates/obj_text/specs/Text.antt", r"\(leb \(largest ns\) n\) \(refusalFrom n fs\) (\d+)"),
-    "OutputTooShort": ("crates/obj_part/specs/File.antt", r"\(ltb room [^\n]*\) (\d+) 0\)\)\)"),
-}
+# where the refusals live: for code, and for definitions
+REFUSALS, DEFINED = "crates/refusal/src/lib.rt", "crates/refusal/specs/Numbers.antt"
 
 
 class Tree:
@@ -64,6 +56,10 @@ def snake(name):
     return re.sub(r"(?<!^)(?=[A-Z])", "_", name).lower()
 
 
+def camel(name):
+    return "".join(word.capitalize() for word in name.split("_"))
+
+
 # ---- the source of the library
 def lowered(name, kind, types, pointer):
     """A parameter of the source as the pairs (name, type) that cross: a slice is a pointer and a length."""
@@ -101,11 +97,15 @@ def source_struct(tree, name):
 
 
 def source_refusals(tree):
-    numbers = {name: int(number) for name, number in re.findall(r"Verdict::(\w+) => (\d+),", tree.read("crates/file_ok/src/verdict.rt"))}
-    for name, (pattern, number) in OTHERS.items():
-        text = "\n".join(tree.read(path) for path in tree.found(pattern))
-        numbers[name] = int(only(number, text, name))
-    return numbers
+    """Each constant of the code: its number and the condition above it."""
+    found = re.findall(r"^// (.*)\npub const (\w+): u32 = (\d+);$", tree.read(REFUSALS), re.M)
+    return {name: (int(number), condition) for condition, name, number in found}
+
+
+def defined_refusals(tree):
+    """The same of the definitions, by the names that code has for them."""
+    found = re.findall(r"^-- (.*)\nabbrev pub (\w+) : ℕ\n\2 = (\d+)$", tree.read(DEFINED), re.M)
+    return {snake(name).upper(): (int(number), condition) for condition, name, number in found}
 
 
 def source_sizes(tree):
@@ -186,15 +186,17 @@ def differences(tree):
     body = only(r"#\[repr\(C\)\]\n[^\n]*\npub struct %s \{(.*?)\n\}" % RUST_ROW, ffi, "#[repr(C)] struct of ffi.rs")
     same("ffi.rs: " + RUST_ROW, [(field, C_TYPES[kind]) for field, kind in re.findall(r"pub (\w+): (\w+),", body)], fields)
 
-    numbers = source_refusals(tree)
+    refusals = source_refusals(tree)
     declared = {name: int(number) for name, number in re.findall(r"GABLEMADDER_(\w+) = (\d+)", header)}
-    same("header: refusals", declared, {snake(name).upper(): number for name, number in numbers.items()})
-    del numbers["Accepted"]
-    same("refusal.rs: numbers", {name: int(number) for name, number in re.findall(r"^    (\w+) = (\d+),$", refusal, re.M)}, numbers)
-
-    conditions = told_conditions(tree)
+    same("header: refusals", declared, {name: number for name, (number, _) in refusals.items()})
+    del refusals["ACCEPTED"]
+    same("Numbers.antt: refusals", defined_refusals(tree), refusals)
+    conditions = dict(refusals.values())
+    same("README: conditions", told_conditions(tree), conditions)
     comments = {int(number): text for number, text in re.findall(r"GABLEMADDER_\w+ = (\d+),? +/\* (.*?) \*/", whole)}
     same("header: conditions", comments, conditions)
+    numbers = {camel(name): number for name, (number, _) in refusals.items()}
+    same("refusal.rs: numbers", {name: int(number) for name, number in re.findall(r"^    (\w+) = (\d+),$", refusal, re.M)}, numbers)
     body = only(r"fn condition.*?\{(.*?)\n    \}", refusal, "conditions of refusal.rs")
     said = {numbers.get(name): text for name, text in re.findall(r'(\w+) => "(.*?)",', body)}
     same("refusal.rs: conditions", said, conditions)
@@ -224,10 +226,13 @@ CHANGES = [
     (HEADER, "(24 * (size_t)(P) + 8 * (size_t)(V) + 2048)", "(16 * (size_t)(P) + 8 * (size_t)(V) + 2048)"),
     (HEADER, "GABLEMADDER_MOST_ROWS 2048", "GABLEMADDER_MOST_ROWS 4096"),
     ("crates/exports/src/texts.rt", "    places: u32,\n    out: &mut [u8],", "    out: &mut [u8],\n    places: u32,"),
-    ("crates/exports/src/texts.rt", "Answer::Refused => 13", "Answer::Refused => 14"),
-    ("crates/file_ok/src/verdict.rt", "Verdict::BadJob => 5", "Verdict::BadJob => 6"),
+    (REFUSALS, "NO_DECIMAL: u32 = 13", "NO_DECIMAL: u32 = 14"),
+    (REFUSALS, "pub const BAD_LINE", "pub const OTHER_LINE"),
+    (REFUSALS, "// over 1,024 faces\n", "// over 1,025 faces\n"),
+    (DEFINED, "badJob = 5", "badJob = 6"),
+    (DEFINED, "-- edition not 1\n", "-- edition not 2\n"),
     ("crates/scratch/specs/Regions.antt", "wordsNeeded p v = 12 * p", "wordsNeeded p v = 8 * p"),
-    ("crates/obj_part/specs/File.antt", "(length (facesOf text)))) 16 0)))", "(length (facesOf text)))) 17 0)))"),
+    ("README.md", "| 14 | OBJ text: a line of any other form |", "| 14 | OBJ text: a line |"),
     (RUST + "ffi.rs", "rows: *mut FaultRow,", "rows: *const FaultRow,"),
     (RUST + "ffi.rs", "            job: *const u8,", "            job: *mut u8,"),
     (RUST + "ffi.rs", "    pub b: u32,\n", "    pub b: u64,\n"),

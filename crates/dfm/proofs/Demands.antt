@@ -9,6 +9,7 @@ use lib.ListN.{length, drop}
 use lib.Ieee.{Float}
 use borrow.Author.Tests.{eqb-true, eqb-false}
 use Rattle.num_float.proofs.Tests.{contrary}
+use Rattle.refusal.specs.Numbers.{tooLittleScratch, tooManyFaults, reportTooLong}
 use Rattle.file_part.specs.Part.{partOf}
 use Rattle.solid_faces.specs.Faces.{Checked}
 use Rattle.scratch.specs.Refusal.{bodyRefusal}
@@ -27,15 +28,15 @@ use Rattle.dfm_core.specs.declared.answer.Answer.{Answer}
 use Rattle.dfm_core.specs.declared.answer.Answer.the-variants.{Accepted, Refused}
 use Rattle.dfm_core.specs.Faults.{faultsOf, summaryOf, reportOf}
 use Rattle.dfm_core.specs.Answer.{numberOf, lengthOf, isAccepted, answerOf}
-use Rattle.dfm_core.proofs.AnswerLaws.{refusal-ten}
+use Rattle.dfm_core.proofs.AnswerLaws.{refusal-most}
 use Rattle.dfm.specs.Check.{Outcome}
 
 -- ---- the answer
 -- an answer by its three tests, q being the refusal from 1 to 10
 unfoldable answerBy : Bool → Bool → Bool → ℕ → ℕ → Answer
-answerBy good few fit q n = cond good (cond few (cond fit (Accepted n) (Refused 12)) (Refused 11)) (Refused q)
+answerBy good few fit q n = cond good (cond few (cond fit (Accepted n) (Refused reportTooLong)) (Refused tooManyFaults)) (Refused q)
 
-by-number : (good few fit : Bool) (q n : ℕ) → q ≤ 10 → numberOf (answerBy good few fit q n) ≤ 12
+by-number : (good few fit : Bool) (q n : ℕ) → q ≤ tooLittleScratch → numberOf (answerBy good few fit q n) ≤ reportTooLong
 unfolding answerBy numberOf
 by-number true true true q n h = omega arith
 by-number true true false q n h = omega arith
@@ -83,8 +84,8 @@ module _ {s words words′ : List ℕ} {reals reals′ : List Float} {rows rows�
   is = o .answer ∙ answer-by s (length words) (length reals) (min 2048 (length rows)) (length report)
 
   -- the numbers end at 12, "report longer than its buffer"
-  pub answer-number : numberOf r ≤ 12
-  answer-number = subst (λ (a : Answer). numberOf a ≤ 12) (sym is) (by-number _ _ _ _ _ (refusal-ten s (length words) (length reals)))
+  pub answer-number : numberOf r ≤ reportTooLong
+  answer-number = subst (λ (a : Answer). numberOf a ≤ reportTooLong) (sym is) (by-number _ _ _ _ _ (refusal-most s (length words) (length reals)))
 
   -- 0 is none
   pub accepted-zero : isAccepted r ≡ true → numberOf r ≡ 0

@@ -8,10 +8,11 @@ use lib.Dec.{eqb, leb, ltb}
 use lib.ListN.{length}
 use borrow.Author.Tests.{eq-eqb, ne-eqb, le-leb, lt-ltb}
 use Rattle.num_float.proofs.Tests.{and-true}
+use Rattle.refusal.specs.Numbers.{tooManyFaces, tooLittleScratch, tooManyFaults, reportTooLong}
 use Rattle.file_part.specs.Part.{partOf}
 use Rattle.file_ok.specs.declared.verdict.Verdict.{Verdict}
 use Rattle.file_ok.specs.declared.verdict.Verdict.the-variants as verdict
-use Rattle.file_ok.specs.Verdict.{number, orTen}
+use Rattle.file_ok.specs.Verdict.{number, orTooLittle}
 use Rattle.solid_faces.specs.Faces.{bodyVerdict}
 use Rattle.scratch.specs.Refusal.{tooLittle, bodyRefusal}
 use Rattle.dfm_core.specs.declared.answer.Answer.{Answer}
@@ -21,37 +22,37 @@ use Rattle.dfm_core.specs.Answer.{answerOf}
 use Rattle.dfm_core.specs.Work.{isEarly, wipeFrom, refusalOf, answerAfter}
 
 -- ---- 1 to 10 end at 10
-number-nine : (v : Verdict) → number v ≤ 9
+number-most : (v : Verdict) → number v ≤ tooManyFaces
 unfolding number
-number-nine verdict.Accepted = omega arith
-number-nine verdict.TooShort = omega arith
-number-nine verdict.WrongEdition = omega arith
-number-nine verdict.TooLarge = omega arith
-number-nine verdict.WrongLength = omega arith
-number-nine verdict.BadJob = omega arith
-number-nine verdict.BadVertex = omega arith
-number-nine verdict.BadPolygon = omega arith
-number-nine verdict.FlatPolygon = omega arith
-number-nine verdict.TooManyFaces = omega arith
+number-most verdict.Accepted = omega arith
+number-most verdict.TooShort = omega arith
+number-most verdict.WrongEdition = omega arith
+number-most verdict.TooLarge = omega arith
+number-most verdict.WrongLength = omega arith
+number-most verdict.BadJob = omega arith
+number-most verdict.BadVertex = omega arith
+number-most verdict.BadPolygon = omega arith
+number-most verdict.FlatPolygon = omega arith
+number-most verdict.TooManyFaces = omega arith
 
-or-ten : (earlier little : Bool) (n : ℕ) → n ≤ 9 → cond earlier (cond little 10 0) n ≤ 10
-or-ten true true n h = omega arith
-or-ten true false n h = omega arith
-or-ten false little n h = omega (arith, h)
+or-little : (earlier little : Bool) (n : ℕ) → n ≤ tooManyFaces → cond earlier (cond little tooLittleScratch 0) n ≤ tooLittleScratch
+or-little true true n h = omega arith
+or-little true false n h = omega arith
+or-little false little n h = omega (arith, h)
 
-pub refusal-ten : (s : List ℕ) (words reals : ℕ) → bodyRefusal s words reals ≤ 10
-unfolding bodyRefusal orTen
-refusal-ten s words reals = or-ten (eqb (number (bodyVerdict s)) 0) (tooLittle s words reals) (number (bodyVerdict s)) (number-nine (bodyVerdict s))
+pub refusal-most : (s : List ℕ) (words reals : ℕ) → bodyRefusal s words reals ≤ tooLittleScratch
+unfolding bodyRefusal orTooLittle
+refusal-most s words reals = or-little (eqb (number (bodyVerdict s)) 0) (tooLittle s words reals) (number (bodyVerdict s)) (number-most (bodyVerdict s))
 
 -- ---- the answer, from the refusal of the first half: q is that from 1 to 10, few whether all faults have rows
 module _ (q : ℕ) (good few : Bool) (is : eqb q 0 ≡ good) where
   abbrev k : ℕ
-  k = cond good (cond few 0 11) q
+  k = cond good (cond few 0 tooManyFaults) q
 
-  by-tests : (a : Answer) → cond good (cond few a (Refused 11)) (Refused q) ≡ cond (eqb (cond good (cond few 0 11) q) 0) a (Refused (cond good (cond few 0 11) q))
+  by-tests : (a : Answer) → cond good (cond few a (Refused tooManyFaults)) (Refused q) ≡ cond (eqb (cond good (cond few 0 tooManyFaults) q) 0) a (Refused (cond good (cond few 0 tooManyFaults) q))
   by-tests a = go good few is
     where
-      go : (g f : Bool) → eqb q 0 ≡ g → cond g (cond f a (Refused 11)) (Refused q) ≡ cond (eqb (cond g (cond f 0 11) q) 0) a (Refused (cond g (cond f 0 11) q))
+      go : (g f : Bool) → eqb q 0 ≡ g → cond g (cond f a (Refused tooManyFaults)) (Refused q) ≡ cond (eqb (cond g (cond f 0 tooManyFaults) q) 0) a (Refused (cond g (cond f 0 tooManyFaults) q))
       go true true e = refl
       go true false e = refl
       go false f e = rw e refl
@@ -60,40 +61,40 @@ pub answer-after : (s : List ℕ) (words reals rows room : ℕ) → answerOf s w
 unfolding answerOf answerAfter refusalOf
 answer-after s words reals rows room =
     by-tests (bodyRefusal s words reals) (eqb (bodyRefusal s words reals) 0) (leb (length (faultsOf (partOf s))) rows) refl
-    (cond (leb (length (reportOf (partOf s))) room) (Accepted (length (reportOf (partOf s)))) (Refused 12))
+    (cond (leb (length (reportOf (partOf s))) room) (Accepted (length (reportOf (partOf s)))) (Refused reportTooLong))
 
 -- ---- which refusals change no buffer
-early-is : (k : ℕ) → (k ≡ 0 → ⊥) → k ≤ 10 → isEarly k ≡ true
+early-is : (k : ℕ) → (k ≡ 0 → ⊥) → k ≤ tooLittleScratch → isEarly k ≡ true
 unfolding isEarly
-early-is k some low = and-true (ltb 0 k) (leb k 10) (lt-ltb 0 k (omega (arith, some))) (le-leb k 10 low)
+early-is k some low = and-true (ltb 0 k) (leb k tooLittleScratch) (lt-ltb 0 k (omega (arith, some))) (le-leb k tooLittleScratch low)
 
 module _ (s : List ℕ) (words reals rows : ℕ) where
   -- 1 to 10
   pub early-refused : (bodyRefusal s words reals ≡ 0 → ⊥) → isEarly (refusalOf s words reals rows) ≡ true
   unfolding refusalOf
   early-refused other =
-      ap isEarly (ap (λ (b : Bool). cond b (cond (leb (length (faultsOf (partOf s))) rows) 0 11) (bodyRefusal s words reals)) (ne-eqb (bodyRefusal s words reals) 0 other))
-      ∙ early-is (bodyRefusal s words reals) other (refusal-ten s words reals)
+      ap isEarly (ap (λ (b : Bool). cond b (cond (leb (length (faultsOf (partOf s))) rows) 0 tooManyFaults) (bodyRefusal s words reals)) (ne-eqb (bodyRefusal s words reals) 0 other))
+      ∙ early-is (bodyRefusal s words reals) other (refusal-most s words reals)
 
   -- 11, 12 and a report
   pub early-answered : bodyRefusal s words reals ≡ 0 → isEarly (refusalOf s words reals rows) ≡ false
   unfolding refusalOf isEarly
   early-answered z = rw (eq-eqb (bodyRefusal s words reals) 0 z) (go (leb (length (faultsOf (partOf s))) rows))
     where
-      go : (b : Bool) → (ltb 0 (cond b 0 11) && leb (cond b 0 11) 10) ≡ false
+      go : (b : Bool) → (ltb 0 (cond b 0 tooManyFaults) && leb (cond b 0 tooManyFaults) tooLittleScratch) ≡ false
       go true = refl
       go false = refl
 
   -- from which number on the rows are zeroed
   pub wipe-refused : (room n : ℕ) → (bodyRefusal s words reals ≡ 0 → ⊥) → wipeFrom (answerOf s words reals rows room) n ≡ n
   unfolding answerOf wipeFrom
-  wipe-refused room n other = rw (ne-eqb (bodyRefusal s words reals) 0 other, early-is (bodyRefusal s words reals) other (refusal-ten s words reals)) refl
+  wipe-refused room n other = rw (ne-eqb (bodyRefusal s words reals) 0 other, early-is (bodyRefusal s words reals) other (refusal-most s words reals)) refl
 
   pub wipe-answered : (room n : ℕ) → bodyRefusal s words reals ≡ 0 → wipeFrom (answerOf s words reals rows room) n ≡ 0
   unfolding answerOf wipeFrom isEarly
   wipe-answered room n z = rw (eq-eqb (bodyRefusal s words reals) 0 z) (go (leb (length (faultsOf (partOf s))) rows) (leb (length (reportOf (partOf s))) room))
     where
-      go : (few fit : Bool) → wipeFrom (cond few (cond fit (Accepted (length (reportOf (partOf s)))) (Refused 12)) (Refused 11)) n ≡ 0
+      go : (few fit : Bool) → wipeFrom (cond few (cond fit (Accepted (length (reportOf (partOf s)))) (Refused reportTooLong)) (Refused tooManyFaults)) n ≡ 0
       go true true = refl
       go true false = refl
       go false fit = refl

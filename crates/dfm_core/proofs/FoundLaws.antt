@@ -18,12 +18,12 @@ use Rattle.scratch.specs.Standing.{Standing}
 use Rattle.fault_row.specs.declared.summary.Summary.{Summary}
 use Rattle.fault_row.specs.declared.summary.Found.{Found}
 use Rattle.fault_row.specs.Summary.{noSummary}
-use Rattle.fault_row.proofs.FaultLaws.{faults-none, faults-same}
+use Rattle.fault_row.proofs.FlawLaws.{flaws-none, flaws-same}
 use Rattle.rule_sheet.specs.All.{SheetPut}
 use Rattle.rule_printing.specs.Rules.{trapsHollows}
 use Rattle.rule_printing.specs.All.{printing, PrintingPut}
 use Rattle.rule_printing.specs.All as print
-use Rattle.dfm_core.specs.Faults.{faultsBy, faultsOf, summaryBy, summaryOf}
+use Rattle.dfm_core.specs.Faults.{flawsBy, flawsOf, summaryBy, summaryOf}
 use Rattle.dfm_core.specs.Work.{asksSegments, StagesFor, Asked, MachinedPut, FaultsFound}
 use Rattle.dfm_core.proofs.ToldLaws.{told-machined, told-sheet, told-print}
 
@@ -54,17 +54,17 @@ by-none n a b e = rw (eq-eqb n 0 e) refl
 by-some : {X : Type 0} (n : ℕ) (a b : X) → (n ≡ 0 → ⊥) → b ≡ cond (eqb n 0) a b
 by-some n a b e = rw (ne-eqb n 0 e) refl
 
-none-faults : (t : Part) → facesOf t ≡ 0 → [] ≡ faultsOf t
-unfolding faultsOf
-none-faults t e = by-none (facesOf t) [] (faultsBy (t .job .process) t) e
+none-flaws : (t : Part) → facesOf t ≡ 0 → [] ≡ flawsOf t
+unfolding flawsOf
+none-flaws t e = by-none (facesOf t) [] (flawsBy (t .job .process) t) e
 
 none-summary : (t : Part) → facesOf t ≡ 0 → noSummary ≡ summaryOf t
 unfolding summaryOf
 none-summary t e = by-none (facesOf t) noSummary (summaryBy (t .job .process) t) e
 
-some-faults : (t : Part) (p : Process) → (facesOf t ≡ 0 → ⊥) → t .job .process ≡ p → faultsBy p t ≡ faultsOf t
-unfolding faultsOf
-some-faults t p some e = ap (λ (q : Process). faultsBy q t) (sym e) ∙ by-some (facesOf t) [] (faultsBy (t .job .process) t) some
+some-flaws : (t : Part) (p : Process) → (facesOf t ≡ 0 → ⊥) → t .job .process ≡ p → flawsBy p t ≡ flawsOf t
+unfolding flawsOf
+some-flaws t p some e = ap (λ (q : Process). flawsBy q t) (sym e) ∙ by-some (facesOf t) [] (flawsBy (t .job .process) t) some
 
 some-summary : (t : Part) (p : Process) → (facesOf t ≡ 0 → ⊥) → t .job .process ≡ p → summaryBy p t ≡ summaryOf t
 unfolding summaryOf
@@ -76,7 +76,7 @@ pub found-none : (s : List ℕ) (at : Regions) (words : List ℕ) (reals : List 
 found-none s at words reals cells numbers n is empty x e standing =
     let none : facesOf (partOf s) ≡ 0 = sym is ∙ empty in
     record {
-      put = faults-same (none-faults (partOf s) none) (faults-none 0 cells numbers);
+      put = flaws-same (none-flaws (partOf s) none) (flaws-none 0 cells numbers);
       few = omega arith;
       summary = e ∙ none-summary (partOf s) none;
       standing = standing;
@@ -94,10 +94,10 @@ module _ (s : List ℕ) (at : Regions) (words words′ : List ℕ) (reals reals�
 
     pub found-machined : partOf s .job .process ≡ CncMachining → MachinedPut s at words words′ reals reals′ cells cells′ numbers numbers′ r →
         FaultsFound s at words words′ reals reals′ cells cells′ numbers numbers′ r
-    unfolding faultsBy summaryBy
+    unfolding flawsBy summaryBy
     found-machined e h =
         record {
-          put = faults-same (some-faults (partOf s) CncMachining some e) (h .put .put);
+          put = flaws-same (some-flaws (partOf s) CncMachining some e) (h .put .put);
           few = omega (arith, h .put .few);
           summary = h .summary ∙ some-summary (partOf s) CncMachining some e;
           standing = h .put .standing;
@@ -109,10 +109,10 @@ module _ (s : List ℕ) (at : Regions) (words words′ : List ℕ) (reals reals�
 
     pub found-sheet : partOf s .job .process ≡ SheetMetal → SheetPut s at words words′ reals reals′ cells cells′ numbers numbers′ r →
         FaultsFound s at words words′ reals reals′ cells cells′ numbers numbers′ r
-    unfolding faultsBy summaryBy
+    unfolding flawsBy summaryBy
     found-sheet e h =
         record {
-          put = faults-same (some-faults (partOf s) SheetMetal some e) (h .put);
+          put = flaws-same (some-flaws (partOf s) SheetMetal some e) (h .put);
           few = h .few;
           summary = h .summary ∙ some-summary (partOf s) SheetMetal some e;
           standing = h .standing;
@@ -123,12 +123,12 @@ module _ (s : List ℕ) (at : Regions) (words words′ : List ℕ) (reals reals�
         }
 
     -- by each process that prints
-    pub found-print : (p : Process) → partOf s .job .process ≡ p → printing (partOf s) ≡ faultsBy p (partOf s) → print.summaryOf (partOf s) ≡ summaryBy p (partOf s) →
+    pub found-print : (p : Process) → partOf s .job .process ≡ p → printing (partOf s) ≡ flawsBy p (partOf s) → print.summaryOf (partOf s) ≡ summaryBy p (partOf s) →
         Asked (partOf s) at → PrintingPut s at words words′ reals reals′ cells cells′ numbers numbers′ r →
         FaultsFound s at words words′ reals reals′ cells cells′ numbers numbers′ r
     found-print p e ef es asks h =
         record {
-          put = faults-same (ef ∙ some-faults (partOf s) p some e) (h .put);
+          put = flaws-same (ef ∙ some-flaws (partOf s) p some e) (h .put);
           few = omega (arith, h .few);
           summary = h .summary ∙ es ∙ some-summary (partOf s) p some e;
           standing = h .standing;

@@ -11,7 +11,7 @@
 --   answered-refused, answered-report                   a refusal; the report, or 12
 --   ended-early, ended-late                             the scratch as it was, or all zero
 -- AnswerLaws: the answer by its tests
---   refusal-ten, answer-after                           1 to 10 end at 10; the answer from the first half's refusal
+--   refusal-most, answer-after                          1 to 10 end at 10; the answer from the first half's refusal
 --   early-refused, early-answered                       which refusals change no buffer
 --   wipe-refused, wipe-answered, wipe-fits              from which number on the rows are zeroed
 --   accepted-wipes, early-wipes, late-wipes             the same, case by case

@@ -9,6 +9,7 @@ use lib.Dec.{eqb, leb}
 use lib.ListN.{length, drop, replicate}
 use lib.Ieee.{Float}
 use borrow.Author.Tests.{eq-eqb, ne-eqb, le-leb, lt-leb}
+use Rattle.refusal.specs.Numbers.{tooManyFaults, reportTooLong}
 use Rattle.num_float.proofs.Tests.{contrary}
 use Rattle.math.specs.Vector.{zero as nought}
 use Rattle.file_part.specs.Part.{Part, partOf}
@@ -23,11 +24,15 @@ use Rattle.fault_row.specs.declared.summary.Summary.{Summary}
 use Rattle.fault_row.specs.declared.summary.Found.{Found}
 use Rattle.fault_row.specs.Fault.{Fault}
 use Rattle.fault_row.specs.Row.{rowAt, rowRoom}
+use Rattle.fault_row.specs.Flaw.{rowOf, flawOf}
 use Rattle.fault_row.specs.Summary.{noSummary}
 use Rattle.fault_lines.specs.Lines.{linesOf}
-use Rattle.fault_text.specs.Meaning.{faultOf, GoodRow}
+use Rattle.fault_text.specs.Told.{faultOf}
+use Rattle.fault_text.specs.Good.{Good}
+use Rattle.fault_text.proofs.ToldLaws.{told-length}
 use Rattle.fault_merge.specs.Work.{faultsTo}
 use Rattle.fault_merge.proofs.RowLaws.{rows-put, rows-good}
+use Rattle.report_faces.specs.Named.{namedOf, namedAt}
 use Rattle.report_faces.specs.Work.{Told, Kept}
 use Rattle.report.specs.declared.report.Written.{Written}
 use Rattle.report.specs.declared.report.Written.the-variants.{Bytes, TooLong}
@@ -36,7 +41,7 @@ use Rattle.report.specs.Report.{fits, Reported}
 use Rattle.dfm_core.specs.declared.answer.Answer.{Answer}
 use Rattle.dfm_core.specs.declared.answer.Answer.the-variants.{Accepted, Refused}
 use Rattle.dfm_core.specs.declared.halves.Findings.{Findings}
-use Rattle.dfm_core.specs.Faults.{faultsOf, reportOf}
+use Rattle.dfm_core.specs.Faults.{flawsOf, faultsOf, reportOf}
 use Rattle.dfm_core.specs.Answer.{isAccepted}
 use Rattle.dfm_core.specs.Work.{isEarly, Asked, FaultsFound, answerFor, refusalOf, answerAfter, refusedBy, Ready, Finding, Answered, Ended}
 
@@ -78,10 +83,11 @@ module _ (s : List ℕ) (at : Regions) (words words1 words′ : List ℕ) (reals
   rows-same = is-rows ∙ ap₂ rowRoom (h .put .cells-kept .long) (h .put .numbers-kept .long)
 
   fault-count : x .faults ≡ length (faultsOf t)
-  fault-count = h .put .count ∙ omega arith
+  unfolding faultsOf
+  fault-count = omega (arith, h .put .count, told-length t (flawsOf t))
 
   -- 11
-  pub finding-many : (r : Findings) → (rows < x .faults) ⊎ (lent < x .faults) → r ≡ refusedBy 11 → Finding s words words′ reals reals′ cells cells′ numbers numbers′ lent r
+  pub finding-many : (r : Findings) → (rows < x .faults) ⊎ (lent < x .faults) → r ≡ refusedBy tooManyFaults → Finding s words words′ reals reals′ cells cells′ numbers numbers′ lent r
   unfolding refusalOf
   finding-many r many is =
       subst (Finding s words words′ reals reals′ cells cells′ numbers numbers′ lent) (sym is)
@@ -102,10 +108,10 @@ module _ (s : List ℕ) (at : Regions) (words words1 words′ : List ℕ) (reals
 
   -- the report's text, of what was found
   found-text : x .faults ≤ rows → reportText (x .summary) (linesOf (faultsTo (partOf s) cells′ numbers′ (x .faults))) ≡ reportOf (partOf s)
-  unfolding reportOf
+  unfolding reportOf faultsOf
   found-text room =
       ap₂ (λ (y : Summary) (fs : List Fault). reportText y (linesOf fs)) (h .summary)
-      (rows-put t (faultsOf t) cells cells′ numbers numbers′ (x .faults) (h .put) (omega (arith, room, rows-same)))
+      (rows-put t (flawsOf t) cells cells′ numbers numbers′ (x .faults) (h .put) (omega (arith, room, rows-same)))
 
   -- none of 1 to 11
   pub finding-good : x .faults ≤ rows → x .faults ≤ lent → (n : ℕ) → n ≡ facesOf (partOf s) → Asked (partOf s) at →
@@ -131,7 +137,7 @@ module _ (s : List ℕ) (at : Regions) (words words1 words′ : List ℕ) (reals
                     body = h .standing .the-words;
                     ranked = h .ranked;
                     faces = is;
-                    rows = rows-good s (faultsOf t) cells cells′ numbers numbers′ (x .faults) (h .standing .placed .checked) (h .put) (omega (arith, room, rows-same));
+                    rows = rows-good s (flawsOf t) cells cells′ numbers numbers′ (x .faults) (h .standing .placed .checked) (h .put) (omega (arith, room, rows-same));
                     told = λ k low. h .told k low (omega (arith, room, rows-same, low));
                   };
               text = found-text room;
@@ -150,6 +156,7 @@ faults-same t cells cells′ numbers numbers′ (suc n) same =
 
 pub ready-same : (s words cells cells′ : List ℕ) (numbers numbers′ : List Float) (r : Findings) → length cells′ ≡ length cells → length numbers′ ≡ length numbers →
     ((k : ℕ) → k < r .faults → rowAt cells′ numbers′ k ≡ rowAt cells numbers k) → Ready s words cells numbers r → Ready s words cells′ numbers′ r
+unfolding namedAt
 ready-same s words cells cells′ numbers numbers′ r lc ln same h =
     record {
       at = h .at;
@@ -167,9 +174,10 @@ ready-same s words cells cells′ numbers numbers′ r lc ln same h =
                   few = k .rows .few;
                   cells-long = omega (arith, k .rows .cells-long, lc);
                   numbers-long = omega (arith, k .rows .numbers-long, ln);
-                  good = λ j low. subst (GoodRow (partOf s)) (sym (same j low)) (k .rows .good j low);
+                  kept = λ j low. same j low ∙ k .rows .kept j low ∙ ap (λ (row : FaultRow). rowOf (flawOf row)) (sym (same j low));
+                  good = λ j low. subst (λ (row : FaultRow). Good (partOf s) (flawOf row)) (sym (same j low)) (k .rows .good j low);
                 };
-            told = λ j low. subst (Told (partOf s) (h .at) words) (sym (same j low)) (k .told j low);
+            told = λ j low. subst (λ (row : FaultRow). Told (partOf s) (h .at) words (namedOf (flawOf row))) (sym (same j low)) (k .told j low);
           };
       text = ap (λ (fs : List Fault). reportText (r .summary) (linesOf fs)) (faults-same (partOf s) cells cells′ numbers numbers′ (r .faults) same) ∙ h .text;
     }
@@ -198,12 +206,12 @@ unfolding answerAfter isAccepted
 answered-refused s report k other = record { answer = sym (by-false _ _ _ (ne-eqb k 0 other)); buffer = refl }
 
 -- the answer by whether the report fits
-fit-answer : (b : Bool) (n : ℕ) → answerFor (cond b (Bytes n) TooLong) ≡ cond b (Accepted n) (Refused 12)
+fit-answer : (b : Bool) (n : ℕ) → answerFor (cond b (Bytes n) TooLong) ≡ cond b (Accepted n) (Refused reportTooLong)
 unfolding answerFor
 fit-answer true n = refl
 fit-answer false n = refl
 
-fit-accepted : (b : Bool) (n : ℕ) → b ≡ isAccepted (cond b (Accepted n) (Refused 12))
+fit-accepted : (b : Bool) (n : ℕ) → b ≡ isAccepted (cond b (Accepted n) (Refused reportTooLong))
 unfolding isAccepted
 fit-accepted true n = refl
 fit-accepted false n = refl
@@ -225,7 +233,7 @@ answered-report s words cells numbers f report report′ w r ready good written 
     done : Reported (reportOf (partOf s)) report report′ w
     done = subst (λ (l : List ℕ). Reported l report report′ w) (ready .text) written
 
-    told : r ≡ cond fit (Accepted (length (reportOf (partOf s)))) (Refused 12)
+    told : r ≡ cond fit (Accepted (length (reportOf (partOf s)))) (Refused reportTooLong)
     told = is ∙ ap answerFor (done .answer) ∙ fit-answer fit (length (reportOf (partOf s)))
 
 -- the scratch: as it was, or all zero

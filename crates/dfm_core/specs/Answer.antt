@@ -4,6 +4,7 @@ use mathlib.Core.List.{List}
 use Prim.Native.Nat.{ℕ}
 use lib.Dec.{eqb, leb}
 use lib.ListN.{length}
+use Rattle.refusal.specs.Numbers.{tooManyFaults, reportTooLong}
 use Rattle.file_part.specs.Part.{partOf}
 use Rattle.scratch.specs.Refusal.{bodyRefusal}
 use Rattle.dfm_core.specs.declared.answer.Answer.{Answer}
@@ -30,5 +31,5 @@ unfoldable pub answerOf : List ℕ → ℕ → ℕ → ℕ → ℕ → Answer
 answerOf s words reals rows room =
     cond (eqb (bodyRefusal s words reals) 0)
     (cond (leb (length (faultsOf (partOf s))) rows)
-    (cond (leb (length (reportOf (partOf s))) room) (Accepted (length (reportOf (partOf s)))) (Refused 12)) (Refused 11))
+    (cond (leb (length (reportOf (partOf s))) room) (Accepted (length (reportOf (partOf s)))) (Refused reportTooLong)) (Refused tooManyFaults))
     (Refused (bodyRefusal s words reals))

@@ -8,8 +8,10 @@ use Rattle.file_job.specs.declared.Process.the-variants.{CncMachining, SheetMet
 use Rattle.file_part.specs.Part.{Part}
 use Rattle.solid_faces.specs.Faces.{facesOf}
 use Rattle.fault_row.specs.declared.summary.Summary.{Summary}
+use Rattle.fault_row.specs.declared.flaw.Flaw.{Flaw}
 use Rattle.fault_row.specs.Fault.{Fault}
 use Rattle.fault_row.specs.Summary.{noSummary}
+use Rattle.fault_text.specs.Told.{toldAll}
 use Rattle.fault_lines.specs.Lines.{linesOf}
 use Rattle.rule_machining.specs.All.{machining}
 use Rattle.rule_sheet.specs.All.{sheetMetal}
@@ -19,16 +21,20 @@ use Rattle.rule_printing.specs.All as print
 use Rattle.report.specs.Text.{reportText}
 
 -- "the rules of the job's process run in the order of `check_with`"
-unfoldable pub faultsBy : Process → Part → List Fault
-faultsBy CncMachining t = machining t
-faultsBy SheetMetal t = sheetMetal t
-faultsBy Fdm t = printing t
-faultsBy Sla t = printing t
-faultsBy Sls t = printing t
+unfoldable pub flawsBy : Process → Part → List Flaw
+flawsBy CncMachining t = machining t
+flawsBy SheetMetal t = sheetMetal t
+flawsBy Fdm t = printing t
+flawsBy Sla t = printing t
+flawsBy Sls t = printing t
 
 -- "A part without polygons has none": then it has no faces, and `check_with` returns before any rule
+unfoldable pub flawsOf : Part → List Flaw
+flawsOf t = cond (eqb (facesOf t) 0) [] (flawsBy (t .job .process) t)
+
+-- as they are told: severity, rule, text and faces
 unfoldable pub faultsOf : Part → List Fault
-faultsOf t = cond (eqb (facesOf t) 0) [] (faultsBy (t .job .process) t)
+faultsOf t = toldAll t (flawsOf t)
 
 -- thickness, bends and height
 unfoldable pub summaryBy : Process → Part → Summary

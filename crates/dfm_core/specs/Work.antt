@@ -1,11 +1,12 @@
 -- What the functions of this crate leave on the way. A reader may pass over it.
-use mathlib.Core.Bool.{Bool, _&&_, cond, true, false}
+use mathlib.Core.Bool.{Bool, _&&_, cond, true}
 use mathlib.Core.Path.{_≡_}
 use mathlib.Core.List.{List, _++_}
 use Prim.Native.Nat.{ℕ, _≤_, _<_, min}
 use lib.Dec.{leb, ltb, eqb}
 use lib.ListN.{length, drop, replicate}
 use lib.Ieee.{Float}
+use Rattle.refusal.specs.Numbers.{tooLittleScratch, tooManyFaults, reportTooLong}
 use Rattle.math.specs.Vector.{zero}
 use Rattle.file_job.specs.declared.Process.{Process}
 use Rattle.file_job.specs.declared.Process.the-variants.{CncMachining, SheetMetal, Fdm, Sla, Sls}
@@ -16,14 +17,15 @@ use Rattle.scratch.specs.Refusal.{bodyRefusal}
 use Rattle.scratch.specs.Standing.{Standing}
 use Rattle.solid_ranks.specs.Kept.{Ranked}
 use Rattle.fault_row.specs.declared.summary.Found.{Found}
-use Rattle.fault_row.specs.Row.{rowAt, rowRoom}
-use Rattle.fault_row.specs.Faults.{FaultsPut}
+use Rattle.fault_row.specs.Row.{rowRoom}
+use Rattle.fault_row.specs.Flaws.{FlawsPut}
 use Rattle.fault_row.specs.Summary.{noSummary}
-use Rattle.fault_text.specs.Meaning.{faultOf, GoodRow}
+use Rattle.fault_text.specs.Good.{Good}
 use Rattle.fault_lines.specs.Lines.{linesOf}
 use Rattle.rule_machining.specs.All.{MachiningPut}
 use Rattle.rule_printing.specs.Rules.{trapsHollows}
 use Rattle.fault_merge.specs.Work.{faultsTo}
+use Rattle.report_faces.specs.Named.{namedAt}
 use Rattle.report_faces.specs.Work.{Told, Kept}
 use Rattle.report.specs.declared.report.Written.{Written}
 use Rattle.report.specs.declared.report.Written.the-variants.{Bytes, TooLong}
@@ -31,13 +33,13 @@ use Rattle.report.specs.Text.{reportText}
 use Rattle.dfm_core.specs.declared.answer.Answer.{Answer}
 use Rattle.dfm_core.specs.declared.answer.Answer.the-variants.{Accepted, Refused}
 use Rattle.dfm_core.specs.declared.halves.Findings.{Findings}
-use Rattle.dfm_core.specs.Faults.{faultsOf, summaryOf, reportOf}
+use Rattle.dfm_core.specs.Faults.{flawsOf, faultsOf, summaryOf, reportOf}
 use Rattle.dfm_core.specs.Answer.{isAccepted}
 
 -- ---- what it means for the buffers
 -- "1 to 10 .. change no buffer"
 unfoldable pub isEarly : ℕ → Bool
-isEarly k = ltb 0 k && leb k 10
+isEarly k = ltb 0 k && leb k tooLittleScratch
 
 -- "11, 12 and an accepted check leave scratch and rows all zero": from which number on the rows are zeroed
 unfoldable pub wipeFrom : Answer → ℕ → ℕ
@@ -68,28 +70,28 @@ pub record MachinedPut (s : List ℕ) (at : Regions) (words words′ : List ℕ)
 
 -- The faults stand in the rows as far as those are lent, and the scratch tells the faces of those that have many.
 pub record FaultsFound (s : List ℕ) (at : Regions) (words words′ : List ℕ) (reals reals′ : List Float) (cells cells′ : List ℕ) (numbers numbers′ : List Float) (r : Found) : Type 0 where
-  pub put : FaultsPut (faultOf (partOf s)) (GoodRow (partOf s)) 0 (faultsOf (partOf s)) cells cells′ numbers numbers′ (r .faults)
+  pub put : FlawsPut (Good (partOf s)) 0 (flawsOf (partOf s)) cells cells′ numbers numbers′ (r .faults)
   pub few : r .faults ≤ 4194304
   pub summary : r .summary ≡ summaryOf (partOf s)
   pub standing : Standing s at words′ reals′
   pub ranked : Ranked (partOf s) at words′
-  pub told : (k : ℕ) → k < r .faults → k < rowRoom (length cells) (length numbers) → Told (partOf s) at words′ (rowAt cells′ numbers′ k)
+  pub told : (k : ℕ) → k < r .faults → k < rowRoom (length cells) (length numbers) → Told (partOf s) at words′ (namedAt cells′ numbers′ k)
   pub words-long : length words′ ≡ length words
   pub reals-long : length reals′ ≡ length reals
 
 -- ---- the answer
 unfoldable pub answerFor : Written → Answer
 answerFor (Bytes n) = Accepted n
-answerFor TooLong = Refused 12
+answerFor TooLong = Refused reportTooLong
 
 -- 1 to 10, then 11; 0 for none
 unfoldable pub refusalOf : List ℕ → ℕ → ℕ → ℕ → ℕ
-refusalOf s words reals rows = cond (eqb (bodyRefusal s words reals) 0) (cond (leb (length (faultsOf (partOf s))) rows) 0 11) (bodyRefusal s words reals)
+refusalOf s words reals rows = cond (eqb (bodyRefusal s words reals) 0) (cond (leb (length (faultsOf (partOf s))) rows) 0 tooManyFaults) (bodyRefusal s words reals)
 
 -- then 12, or the report
 unfoldable pub answerAfter : ℕ → List ℕ → ℕ → Answer
 answerAfter refusal s room =
-    cond (eqb refusal 0) (cond (leb (length (reportOf (partOf s))) room) (Accepted (length (reportOf (partOf s)))) (Refused 12)) (Refused refusal)
+    cond (eqb refusal 0) (cond (leb (length (reportOf (partOf s))) room) (Accepted (length (reportOf (partOf s)))) (Refused reportTooLong)) (Refused refusal)
 
 -- ---- the first half
 abbrev pub refusedBy : ℕ → Findings

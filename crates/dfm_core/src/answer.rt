@@ -1,6 +1,8 @@
 // The answer to a part file.
 ghost use mathlib.Core.Path.{_≡_};
 ghost use Rattle.dfm_core.specs.Work.{isEarly, wipeFrom, answerFor};
+use refusal::REPORT_TOO_LONG;
+use refusal::TOO_LITTLE_SCRATCH;
 use report::report::Written;
 
 // What the check of a part answers. Its numbers: specs/Answer.antt.
@@ -15,7 +17,7 @@ pub enum Answer {
 pub(crate) fn is_early(number: u32) -> bool
     ensures { λ r. ⌜ r ≡ isEarly number ⌝ }
 {
-    (0 < number) & (number <= 10)
+    (0 < number) & (number <= TOO_LITTLE_SCRATCH)
 }
 
 // The answer where the report was written or is too long.
@@ -24,7 +26,9 @@ pub(crate) fn answer_of(written: Written) -> Answer
 {
     match written {
         Written::Bytes(n) => Answer::Accepted { length: n },
-        Written::TooLong => Answer::Refused { number: 12 },
+        Written::TooLong => Answer::Refused {
+            number: REPORT_TOO_LONG,
+        },
     }
 }
 

@@ -13,11 +13,13 @@ use fault_row::summary::Summary;
 use fault_text::job::job_of;
 use list_cells::fill_reals;
 use list_cells::fill_words;
+use refusal::ACCEPTED;
+use refusal::TOO_MANY_FAULTS;
 use report::report::write_report;
 use report_faces::marks::Listing;
 use scratch::body::put_body;
-use scratch::refusal::body_refusal;
 use scratch::regions::Regions;
+use scratch::verdict::body_refusal;
 
 // What the first half leaves beside the rows.
 pub struct Findings {
@@ -62,13 +64,13 @@ fn find_part(
     let faults = found.faults;
     let summary = found.summary;
     if rows_lent(cells.len(), numbers.len()) < faults {
-        return refused(11);
+        return refused(TOO_MANY_FAULTS);
     }
     if lent < faults {
-        return refused(11);
+        return refused(TOO_MANY_FAULTS);
     }
     Findings {
-        refusal: 0,
+        refusal: ACCEPTED,
         faults: faults,
         faces: n,
         summary: summary,
@@ -88,7 +90,7 @@ pub fn find_faults(
     ensures { λ r. ⌜ Finding (now (file .entry)) (now (words .entry)) (now (words .exit)) (now (reals .entry)) (now (reals .exit)) (now (cells .entry)) (now (cells .exit)) (now (numbers .entry)) (now (numbers .exit)) lent r ⌝ }
 {
     let refusal = body_refusal(file, words.len(), reals.len());
-    if refusal != 0 {
+    if refusal != ACCEPTED {
         return refused(refusal);
     }
     find_part(file, words, reals, cells, numbers, lent)
@@ -114,7 +116,7 @@ fn answer_part(
     ensures { λ r. ⌜ Answered (now (file .entry)) (found .refusal) (now (report .entry)) (now (report .exit)) r ⌝ }
 {
     let refusal = found.refusal;
-    if refusal != 0 {
+    if refusal != ACCEPTED {
         return Answer::Refused { number: refusal };
     }
     let job = job_of(file);

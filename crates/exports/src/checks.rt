@@ -6,6 +6,7 @@ ghost use Rattle.exports.specs.Check.{Checks};
 use dfm::check::check;
 use dfm_core::answer::Answer;
 use fault_row::row::FaultRow;
+use refusal::ACCEPTED;
 
 // The number of the refusal, 0 for none; how many bytes the report has goes into `written`, where there is one.
 fn tell(answer: Answer, written: &mut usize) -> u32
@@ -14,7 +15,7 @@ fn tell(answer: Answer, written: &mut usize) -> u32
     match answer {
         Answer::Accepted { length } => {
             *written = length;
-            0
+            ACCEPTED
         }
         Answer::Refused { number } => number,
     }

@@ -2,6 +2,7 @@
 ghost use Rattle.exports.specs.Obj.{Returned};
 use obj::convert::Converted;
 use obj::convert::obj_to_part;
+use refusal::ACCEPTED;
 
 // The part file of the polygons of `text`, with the job of 128 bytes, in the first bytes of `out`, how many in `written`, and 0; or the refusal's
 // number, 14, 15, 3, 5 or 16.
@@ -18,7 +19,7 @@ pub extern "C" fn gablemadder_obj(
     match answer {
         Converted::Written(n) => {
             *written = n;
-            0
+            ACCEPTED
         }
         Converted::Refused(number) => number,
     }

@@ -1,6 +1,8 @@
 // The decimal writer.
 ghost use Rattle.exports.specs.Decimal.{Returns};
 use num_text::decimal::Answer;
+use refusal::ACCEPTED;
+use refusal::NO_DECIMAL;
 
 // x with so many places in the first bytes of `out`, and how many in `written`. 0, or the refusal's number, 13.
 #[no_mangle]
@@ -16,8 +18,8 @@ pub extern "C" fn gablemadder_decimal(
     match answer {
         Answer::Written(n) => {
             *written = n;
-            0
+            ACCEPTED
         }
-        Answer::Refused => 13,
+        Answer::Refused => NO_DECIMAL,
     }
 }

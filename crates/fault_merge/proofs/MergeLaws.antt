@@ -10,7 +10,6 @@ use lib.Ieee.{Float}
 use Rattle.num_float.proofs.Tests.{lt-or-ge}
 use Rattle.file_part.specs.Part.{Part}
 use Rattle.fault_row.specs.Row.{rowAt}
-use Rattle.fault_text.specs.Meaning.{GoodRow}
 use Rattle.fault_merge.specs.Hash.{hashOf}
 use Rattle.fault_merge.specs.Rows.{headingAt}
 use Rattle.fault_merge.specs.Merged.{leadIn, countIn, membersIn, Hashes, Merged}
@@ -76,7 +75,7 @@ module _ (t : Part) (cells : List ℕ) (numbers : List Float) where
     }
 
   -- there is room for one more at its line
-  module _ (i hash : ℕ) (old mid : List ℕ) (few : i + 1 ≤ 2048) (good : (k : ℕ) → k < i + 1 → GoodRow t (rowAt cells numbers k))
+  module _ (i hash : ℕ) (old mid : List ℕ) (few : i + 1 ≤ 2048) (low : (k : ℕ) → k < i + 1 → rowAt cells numbers k .count < 2097152)
       (before : Merged t cells numbers old i) (opened : Opened old i hash (lowest i) mid) where
     pub total-room : getD mid (4 * lowest i + 2) 0 + rowAt cells numbers i .count < 4294967296
     unfolding countIn
@@ -85,17 +84,17 @@ module _ (t : Part) (cells : List ℕ) (numbers : List Float) where
         go : (lowest i < i) ⊎ (i ≤ lowest i) → getD mid (4 * lowest i + 2) 0 + rowAt cells numbers i .count < 4294967296
         go (inl h) =
             let most : tally t cells numbers (λ k. rowAt cells numbers k .count) i (lowest i) ≤ i * 2097152 =
-            tally-le t cells numbers (λ k. rowAt cells numbers k .count) i (lowest i) 2097152 (λ k l. omega (arith, good k (omega (arith, l)) .count-to)) in
+            tally-le t cells numbers (λ k. rowAt cells numbers k .count) i (lowest i) 2097152 (λ k l. omega (arith, low k (omega (arith, l)))) in
             let is : getD mid (4 * lowest i + 2) 0 ≡ tally t cells numbers (λ k. rowAt cells numbers k .count) i (lowest i) =
             opened .others (4 * lowest i + 2) (inl (omega arith)) ∙ before .totals (lowest i) h (lead-lead t cells numbers i) in
-            sums _ _ _ i is most few (good i (omega arith) .count-to)
+            sums _ _ _ i is most few (low i (omega arith))
           where
             sums : (a b c n : ℕ) → a ≡ b → b ≤ n * 2097152 → n + 1 ≤ 2048 → c < 2097152 → a + c < 4294967296
             sums a b c n p q r s = omega arith
         go (inr h) =
             let p : i ≡ lowest i = le-antisymm h (lead-le t cells numbers i) in
             let z : getD mid (4 * lowest i + 2) 0 ≡ 0 = ap (λ (k : ℕ). getD mid (4 * k + 2) 0) (sym p) ∙ opened .total-is in
-            omega (arith, z, good i (omega arith) .count-to)
+            omega (arith, z, low i (omega arith))
 
     pub member-room : getD mid (4 * lowest i + 3) 0 < 4096
     unfolding membersIn
@@ -127,13 +126,13 @@ module _ (t : Part) (cells : List ℕ) (numbers : List Float) (i hash lead count
   opened-there : Opened old i hash (leadIn t cells numbers i) mid
   opened-there = subst (λ (l : ℕ). Opened old i hash l mid) lead-is opened
 
-  pub room-at : i + 1 ≤ 2048 → ((k : ℕ) → k < i + 1 → GoodRow t (rowAt cells numbers k)) → 4 * i + 4 ≤ length old → count ≡ rowAt cells numbers i .count
+  pub room-at : i + 1 ≤ 2048 → ((k : ℕ) → k < i + 1 → rowAt cells numbers k .count < 2097152) → 4 * i + 4 ≤ length old → count ≡ rowAt cells numbers i .count
       → (4 * lead + 4 ≤ length mid) × (getD mid (4 * lead + 2) 0 + count < 4294967296) × (getD mid (4 * lead + 3) 0 < 4096)
-  room-at few good long count-is = (
+  room-at few low long count-is = (
     omega (arith, lead-is, lead-le t cells numbers i, opened .long, long),
     subst (λ (l : ℕ). getD mid (4 * l + 2) 0 + count < 4294967296) (sym lead-is)
-        (subst (λ (z : ℕ). getD mid (4 * leadIn t cells numbers i + 2) 0 + z < 4294967296) (sym count-is) (total-room t cells numbers i hash old mid few good before opened-there)),
-    subst (λ (l : ℕ). getD mid (4 * l + 3) 0 < 4096) (sym lead-is) (member-room t cells numbers i hash old mid few good before opened-there),
+        (subst (λ (z : ℕ). getD mid (4 * leadIn t cells numbers i + 2) 0 + z < 4294967296) (sym count-is) (total-room t cells numbers i hash old mid few low before opened-there)),
+    subst (λ (l : ℕ). getD mid (4 * l + 3) 0 < 4096) (sym lead-is) (member-room t cells numbers i hash old mid few low before opened-there),
   )
 
   pub joined-at : (new : List ℕ) → Added mid lead count new → hash ≡ hashOf (headingAt t cells numbers i .text) → count ≡ rowAt cells numbers i .count → Merged t cells numbers new (i + 1)

@@ -1,12 +1,12 @@
--- Rows that agree in kind, severity and numbers have one heading, and so one hash and one lowest fault.
+-- Rows that agree in kind, severity, numbers and open edges have one heading, and so one hash and one lowest fault.
 use mathlib.Core.Path.{_≡_, refl, sym, ap, ap₂, subst, _∙_}
-use mathlib.Core.Bool.{Bool, true, _&&_}
+use mathlib.Core.Bool.{Bool, true, false, _&&_, cond}
 use mathlib.Core.List.{List}
 use Prim.Native.Nat.{ℕ, _+_, _*_, _-_, _%_, _≤_, _<_}
 use native.Mathlib.Nat.{mod-lt}
 use native.Mathlib.Omega.{arith}
 use lib.Dec.{T, eqb}
-use lib.ListN.{length, getD, set, length-set}
+use lib.ListN.{getD, set, length-set}
 use lib.Seq.{getD-set-other}
 use lib.Ieee.{Float, binary64, fits, ofBits, toBits}
 use lib.Ieee.Bits.{ofBits-toBits}
@@ -14,16 +14,14 @@ use borrow.Author.Tests.{eqb-true}
 use Rattle.num_float.proofs.Tests.{and-left, and-right}
 use Rattle.file_part.specs.Part.{Part}
 use Rattle.fault_row.specs.declared.row.FaultRow.{FaultRow}
-use Rattle.fault_row.specs.Names.{severityOf}
+use Rattle.fault_row.specs.declared.flaw.Flaw.{Flaw}
 use Rattle.fault_row.specs.Fault.{Heading}
-use Rattle.fault_row.specs.Row.{rowAt}
-use Rattle.fault_text.specs.Kind.{ruleOf}
-use Rattle.fault_text.specs.Machining.{machiningText}
-use Rattle.fault_text.specs.Sheet.{sheetText}
-use Rattle.fault_text.specs.Printing.{printingText}
-use Rattle.fault_text.specs.Meaning.{textOf, faultOf}
+use Rattle.fault_row.specs.Row.{row, rowAt}
+use Rattle.fault_row.specs.declared.flaw.Flaw.the-variants.{NotClosed}
+use Rattle.fault_row.specs.Flaw.{notClosed, rowOf, flawOf}
+use Rattle.fault_text.specs.Told.{told}
 use Rattle.fault_merge.specs.Hash.{hashOf}
-use Rattle.fault_merge.specs.Rows.{headingOf, headingAt}
+use Rattle.fault_merge.specs.Rows.{headingAt}
 use Rattle.fault_merge.specs.Merged.{leadIn, Hashes, Merged}
 use Rattle.fault_merge.specs.Work.{Front, SameRow}
 use Rattle.fault_merge.proofs.LeadLaws.{lead-like}
@@ -33,41 +31,68 @@ pub bits-same : (x y : Float) (m n : ℕ) → T (fits binary64 x) → T (fits bi
 bits-same x y m n f g d e h =
     sym (ofBits-toBits binary64 x f) ∙ ap (λ (b : ℕ). ofBits binary64 b) (sym d ∙ eqb-true m n h ∙ e) ∙ ofBits-toBits binary64 y g
 
--- the row of a text
-bare : ℕ → Float → Float → Float → FaultRow
-bare k x y z = record { kind = k; severity = 0; count = 0; a = 0; b = 0; waived = 0; x = x; y = y; z = z }
+-- a heading is made from kind, severity and numbers, and that of open edges from a; not from faces or the count
+module _ (t : Part) where
+  abbrev head : Flaw → Heading
+  head f = told t f .heading
 
-text-bare : (t : Part) (row : FaultRow) → textOf t row ≡ textOf t (bare (row .kind) (row .x) (row .y) (row .z))
-unfolding textOf machiningText sheetText printingText bare
-text-bare t row = refl
+  module _ (r : FaultRow) (edges : ℕ) (same : r .kind ≡ notClosed → r .a ≡ edges) where
+    abbrev Keeps : Flaw → Type 0
+    Keeps f = r ≡ rowOf f
 
-text-alike : (t : Part) (r s : FaultRow) → SameRow r s → textOf t r ≡ textOf t s
-text-alike t r s e =
-    text-bare t r ∙ ap₂ (λ (k : ℕ) (x : Float). textOf t (bare k x (r .y) (r .z))) (e .kind) (e .x)
-    ∙ ap₂ (λ (y z : Float). textOf t (bare (s .kind) (s .x) y z)) (e .y) (e .z) ∙ sym (text-bare t s)
+    either : (b : Bool) (f f′ g g′ : Flaw) → head f ≡ head f′ → (Keeps g → head g ≡ head g′) → Keeps (cond b f g) → head (cond b f g) ≡ head (cond b f′ g′)
+    either true f f′ g g′ p q h = p
+    either false f f′ g g′ p q h = q h
 
-headed : ℕ → ℕ → List ℕ → Heading
-headed severity kind text = record { severity = severityOf severity; rule = ruleOf kind; text = text }
+    open-edges : Keeps (NotClosed (r .a)) → head (NotClosed (r .a)) ≡ head (NotClosed edges)
+    unfolding rowOf
+    open-edges h = ap (λ (n : ℕ). head (NotClosed n)) (same (ap (λ (w : FaultRow). w .kind) h))
 
-heading-headed : (t : Part) (row : FaultRow) → headingOf t row ≡ headed (row .severity) (row .kind) (textOf t row)
-unfolding faultOf headed
-heading-headed t row = refl
+    heading-bare : Keeps (flawOf r) → head (flawOf r) ≡ head (flawOf (row (r .kind) (r .severity) 1 edges 0 0 (r .x) (r .y) (r .z)))
+    unfolding flawOf told
+    heading-bare =
+        either (eqb (r .kind) 1) _ _ _ _ refl
+        (either (eqb (r .kind) 2) _ _ _ _ refl
+        (either (eqb (r .kind) 3) _ _ _ _ refl
+        (either (eqb (r .kind) 4) _ _ _ _ refl
+        (either (eqb (r .kind) 5) _ _ _ _ refl
+        (either (eqb (r .kind) 6) _ _ _ _ refl
+        (either (eqb (r .kind) 7) _ _ _ _ refl
+        (either (eqb (r .kind) 8) _ _ _ _ refl
+        (either (eqb (r .kind) 9) _ _ _ _ refl
+        (either (eqb (r .kind) 10) _ _ _ _ refl
+        (either (eqb (r .kind) 11) _ _ _ _ refl
+        (either (eqb (r .kind) 12) _ _ _ _ refl
+        (either (eqb (r .kind) 13) _ _ _ _ refl
+        (either (eqb (r .kind) 14) _ _ _ _ refl
+        (either (eqb (r .kind) 15) _ _ _ _ refl
+        (either (eqb (r .kind) 17) _ _ _ _ refl
+        (either (eqb (r .kind) 18) _ _ _ _ refl
+        (either (eqb (r .kind) 19) _ _ _ _ refl
+        (either (eqb (r .kind) 20) _ _ _ _ refl
+        (either (eqb (r .kind) 21) _ _ _ _ refl
+        (either (eqb (r .kind) 22) _ _ _ _ refl
+        (either (eqb (r .kind) 23) _ _ _ _ refl
+        (either (eqb (r .kind) 24) _ _ _ _ refl open-edges))))))))))))))))))))))
 
-heading-alike : (t : Part) (r s : FaultRow) → SameRow r s → headingOf t r ≡ headingOf t s
-heading-alike t r s e =
-    heading-headed t r ∙ ap₂ (λ (n k : ℕ). headed n k (textOf t r)) (e .severity) (e .kind) ∙ ap (headed (s .severity) (s .kind)) (text-alike t r s e)
-    ∙ sym (heading-headed t s)
+  pub heading-alike : (r s : FaultRow) → r ≡ rowOf (flawOf r) → s ≡ rowOf (flawOf s) → SameRow r s → head (flawOf r) ≡ head (flawOf s)
+  heading-alike r s p q e =
+      heading-bare r (s .a) (e .edges) p ∙ ap₂ (λ (n m : ℕ). head (flawOf (row n m 1 (s .a) 0 0 (r .x) (r .y) (r .z)))) (e .kind) (e .severity)
+      ∙ ap₂ (λ (a b : Float). head (flawOf (row (s .kind) (s .severity) 1 (s .a) 0 0 a b (r .z)))) (e .x) (e .y)
+      ∙ ap (λ (c : Float). head (flawOf (row (s .kind) (s .severity) 1 (s .a) 0 0 (s .x) (s .y) c))) (e .z) ∙ sym (heading-bare s (s .a) (λ k. refl) q)
 
--- b, c and d tell that the numbers agree
-pub row-same : (r s : FaultRow) (b c d : Bool) → (b ≡ true → r .x ≡ s .x) → (c ≡ true → r .y ≡ s .y) → (d ≡ true → r .z ≡ s .z) →
-    ((eqb (r .kind) (s .kind) && eqb (r .severity) (s .severity)) && ((b && c) && d)) ≡ true → SameRow r s
-row-same r s b c d e f g h =
-    let fields : (eqb (r .kind) (s .kind) && eqb (r .severity) (s .severity)) ≡ true = and-left (eqb (r .kind) (s .kind) && eqb (r .severity) (s .severity)) ((b && c) && d) h in
-    let three : ((b && c) && d) ≡ true = and-right (eqb (r .kind) (s .kind) && eqb (r .severity) (s .severity)) ((b && c) && d) h in
+-- w tells that a agrees, b, c and d that the numbers do
+pub row-same : (r s : FaultRow) (w b c d : Bool) → (w ≡ true → r .kind ≡ notClosed → r .a ≡ s .a) → (b ≡ true → r .x ≡ s .x) → (c ≡ true → r .y ≡ s .y) →
+    (d ≡ true → r .z ≡ s .z) → (((eqb (r .kind) (s .kind) && eqb (r .severity) (s .severity)) && w) && ((b && c) && d)) ≡ true → SameRow r s
+row-same r s w b c d a e f g h =
+    let fields : ((eqb (r .kind) (s .kind) && eqb (r .severity) (s .severity)) && w) ≡ true = and-left ((eqb (r .kind) (s .kind) && eqb (r .severity) (s .severity)) && w) ((b && c) && d) h in
+    let heads : (eqb (r .kind) (s .kind) && eqb (r .severity) (s .severity)) ≡ true = and-left (eqb (r .kind) (s .kind) && eqb (r .severity) (s .severity)) w fields in
+    let three : ((b && c) && d) ≡ true = and-right ((eqb (r .kind) (s .kind) && eqb (r .severity) (s .severity)) && w) ((b && c) && d) h in
     let two : (b && c) ≡ true = and-left (b && c) d three in
     record {
-      kind = eqb-true _ _ (and-left (eqb (r .kind) (s .kind)) (eqb (r .severity) (s .severity)) fields);
-      severity = eqb-true _ _ (and-right (eqb (r .kind) (s .kind)) (eqb (r .severity) (s .severity)) fields);
+      kind = eqb-true _ _ (and-left (eqb (r .kind) (s .kind)) (eqb (r .severity) (s .severity)) heads);
+      severity = eqb-true _ _ (and-right (eqb (r .kind) (s .kind)) (eqb (r .severity) (s .severity)) heads);
+      edges = a (and-right (eqb (r .kind) (s .kind) && eqb (r .severity) (s .severity)) w fields);
       x = e (and-left b c two);
       y = f (and-right b c two);
       z = g (and-right (b && c) d three);
@@ -78,10 +103,10 @@ rows-as q w r s e d m = subst (λ (x : FaultRow). SameRow x s) e (subst (λ (x :
 
 -- ---- faults
 module _ (t : Part) (cells work : List ℕ) (numbers : List Float) (i j : ℕ) (before : Merged t cells numbers work i) (low : j < i)
-    (same : SameRow (rowAt cells numbers j) (rowAt cells numbers i)) where
+    (kept : (k : ℕ) → k < i + 1 → rowAt cells numbers k ≡ rowOf (flawOf (rowAt cells numbers k))) (same : SameRow (rowAt cells numbers j) (rowAt cells numbers i)) where
   headings : headingAt t cells numbers j ≡ headingAt t cells numbers i
   unfolding headingAt
-  headings = heading-alike t (rowAt cells numbers j) (rowAt cells numbers i) same
+  headings = heading-alike t (rowAt cells numbers j) (rowAt cells numbers i) (kept j (omega (arith, low))) (kept i (omega arith)) same
 
   pub known-hash : getD work (4 * j) 0 ≡ hashOf (headingAt t cells numbers i .text)
   unfolding Hashes

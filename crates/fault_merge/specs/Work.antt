@@ -1,29 +1,22 @@
 -- What private functions leave on the way; a reader may pass over it. Definitions only.
 use mathlib.Core.List.{List, [], _∷_, _++_}
-use mathlib.Core.Bool.{cond}
 use mathlib.Core.Path.{_≡_}
 use mathlib.Core.Logic.{_⊎_}
 use Prim.Native.Nat.{ℕ, zero, suc, _+_, _*_, _≤_, _<_}
 use lib.Ieee.{Float}
-use lib.Dec.{eqb}
 use lib.ListN.{getD, length}
-use Rattle.list_laws.specs.Below.{sumBelow}
 use Rattle.file_part.specs.Part.{Part}
 use Rattle.fault_row.specs.declared.row.FaultRow.{FaultRow}
 use Rattle.fault_row.specs.Fault.{Fault}
 use Rattle.fault_row.specs.Row.{rowAt}
-use Rattle.fault_text.specs.Meaning.{faultOf}
+use Rattle.fault_row.specs.Flaw.{notClosed}
+use Rattle.fault_text.specs.Told.{faultOf}
 
 -- ---- beside Rows.antt
 -- the faults of the first n rows: row k is fault k
 unfoldable pub faultsTo : Part → List ℕ → List Float → ℕ → List Fault
 faultsTo t cells numbers zero = []
 faultsTo t cells numbers (suc n) = faultsTo t cells numbers n ++ (faultOf t (rowAt cells numbers n) ∷ [])
-
--- ---- beside Merged.antt
--- how many of the faults below n begin a line
-unfoldable pub leaders : List ℕ → ℕ → ℕ
-leaders work n = sumBelow n (λ i. cond (eqb (getD work (4 * i + 1) 0) i) 1 0)
 
 -- ---- how the cells of a fault are made
 pub record Opened (old : List ℕ) (i hash lead : ℕ) (new : List ℕ) : Type 0 where
@@ -49,6 +42,7 @@ pub record Front (from : ℕ) (old new : List ℕ) : Type 0 where
 pub record SameRow (r s : FaultRow) : Type 0 where
   pub kind : r .kind ≡ s .kind
   pub severity : r .severity ≡ s .severity
+  pub edges : r .kind ≡ notClosed → r .a ≡ s .a
   pub x : r .x ≡ s .x
   pub y : r .y ≡ s .y
   pub z : r .z ≡ s .z

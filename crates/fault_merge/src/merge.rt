@@ -1,9 +1,7 @@
 // Which faults share a line. The work slice has four cells for each fault: a hash of its text and the lowest fault of its line, and at that fault the
 // line's count and how many faults it has.
 ghost use mathlib.Core.Path.{_≡_};
-ghost use mathlib.Core.Bool.{cond};
 ghost use Prim.Native.Nat.{_+_, _*_, _≤_, _<_};
-ghost use lib.Dec.{eqb};
 ghost use lib.ListN.{length, getD};
 ghost use Rattle.fault_lines.specs.Line.{sameHeading};
 ghost use Rattle.file_part.specs.Part.{partOf};
@@ -11,12 +9,13 @@ ghost use Rattle.fault_row.specs.Row.{rowAt};
 ghost use Rattle.fault_merge.specs.Hash.{hashOf};
 ghost use Rattle.fault_merge.specs.Rows.{headingAt, Rows};
 ghost use Rattle.fault_merge.specs.Merged.{leadIn, Hashes, Merged};
-ghost use Rattle.fault_merge.specs.Work.{leaders, Opened, Added, SameRow};
+ghost use Rattle.fault_merge.specs.Work.{Opened, Added, SameRow};
 use crate::recall::recalled;
 use crate::recall::remember;
 use crate::recall::slot_of;
 use crate::same::same_heading;
 use crate::same::text_hash;
+use fault_row::flaw::flaw_at;
 use fault_row::row::row_at;
 use list_cells::cell;
 
@@ -37,7 +36,7 @@ fn is_same(
     if work[4 * j] != hash {
         return false;
     }
-    same_heading(file, row_at(cells, numbers, j), row_at(cells, numbers, i))
+    same_heading(file, flaw_at(cells, numbers, j), flaw_at(cells, numbers, i))
 }
 
 // The lowest fault on the line of fault i.
@@ -105,7 +104,7 @@ fn place_of(
             lead: cell(work, 4 * known + 1),
         };
     }
-    let hash = text_hash(file, row_at(cells, numbers, i));
+    let hash = text_hash(file, flaw_at(cells, numbers, i));
     Place {
         hash: hash,
         lead: lead_of(work, file, cells, numbers, i, hash),
@@ -140,29 +139,4 @@ pub fn merge(work: &mut [u32], file: &[u8], cells: &[u32], numbers: &[f64], n: u
         join(work, file, cells, numbers, i, end);
         i += 1;
     }
-}
-
-// 1 if fault i begins a line.
-fn begins(work: &[u32], i: usize) -> usize
-    requires { ⌜ 4 * i + 4 ≤ length (now work) ⌝ }
-    ensures { λ r. ⌜ r ≡ cond (eqb (getD (now (work .entry)) (4 * i + 1) 0) i) 1 0 ⌝ }
-{
-    if cell(work, 4 * i + 1) == i {
-        return 1;
-    }
-    0
-}
-
-// How many faults below n begin a line.
-pub fn line_count(work: &[u32], n: usize) -> usize
-    requires { ⌜ 4 * n ≤ length (now work) ⌝ ∗ ⌜ n ≤ 2048 ⌝ }
-    ensures { λ r. ⌜ r ≡ leaders (now (work .entry)) n ⌝ }
-{
-    let mut k: usize = 0;
-    let mut i: usize = 0;
-    while i < n {
-        k += begins(work, i);
-        i += 1;
-    }
-    k
 }

@@ -5,7 +5,9 @@ ghost use mathlib.Core.Bool.{true};
 ghost use Prim.Native.Nat.{_+_, _*_, _≤_, _<_};
 ghost use lib.ListN.{length};
 ghost use Rattle.fault_row.specs.Row.{rowAt};
+ghost use Rattle.fault_row.specs.Flaw.{notClosed};
 ghost use Rattle.fault_merge.specs.Work.{Front, SameRow};
+use fault_row::flaw::NOT_CLOSED;
 use fault_row::row::FaultRow;
 use fault_row::row::row_at;
 use list_cells::cell;
@@ -18,12 +20,23 @@ fn same_bits(x: f64, y: f64) -> bool
     to_bits(x) == to_bits(y)
 }
 
+// Whether two rows agree in a, where it is the number of open edges.
+fn same_edges(r: FaultRow, s: FaultRow) -> bool
+    ensures { λ t. ⌜ (t ≡ true → r .kind ≡ notClosed → r .a ≡ s .a) ⌝ }
+{
+    if r.kind != NOT_CLOSED {
+        return true;
+    }
+    r.a == s.a
+}
+
 // Whether two rows agree in all that severity, rule and text are made from.
 fn same_row(r: FaultRow, s: FaultRow) -> bool
     ensures { λ t. ⌜ (t ≡ true → SameRow r s) ⌝ }
 {
+    let edges = same_edges(r, s);
     let numbers = same_bits(r.x, s.x) & same_bits(r.y, s.y) & same_bits(r.z, s.z);
-    (r.kind == s.kind) & (r.severity == s.severity) & numbers
+    (r.kind == s.kind) & (r.severity == s.severity) & edges & numbers
 }
 
 // A mix of a number's bits: their remainder by a prime.

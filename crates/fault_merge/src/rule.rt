@@ -1,133 +1,44 @@
-// The rule of a fault row, and where its line stands.
+// The rule of a flaw, and where its line stands.
 ghost use mathlib.Core.Path.{_≡_};
-ghost use Prim.Native.Nat.{_+_, _*_, _<_};
+ghost use Rattle.file_part.specs.Part.{Part};
 ghost use Rattle.fault_row.specs.Names.{ruleRank};
-ghost use Rattle.fault_text.specs.Kind.{machiningRule, sheetRule, printingRule, ruleOf};
+ghost use Rattle.fault_text.specs.Told.{told};
+ghost use Rattle.fault_merge.specs.Rows.{rankOf};
 use fault_row::fault::Rule;
-use fault_row::row::FaultRow;
-use fault_text::kind::DEEP_HOLE_MAX;
-use fault_text::kind::DEEP_HOLE_STANDARD;
-use fault_text::kind::DEEP_INSIDE_CORNER;
-use fault_text::kind::ENCLOSED_HOLLOW_SLA;
-use fault_text::kind::ENCLOSED_HOLLOW_SLS;
-use fault_text::kind::FEW_LAYERS;
-use fault_text::kind::HOLE_NEAR_BEND;
-use fault_text::kind::HOLE_NEAR_EDGE;
-use fault_text::kind::MATERIAL;
-use fault_text::kind::NO_MATERIAL;
-use fault_text::kind::NOT_ONE_THICKNESS;
-use fault_text::kind::OVERHANG;
-use fault_text::kind::PRINT_SMALL_HOLE;
-use fault_text::kind::PRINT_THIN_WALL;
-use fault_text::kind::SHARP_INSIDE_CORNER;
-use fault_text::kind::SHEET_SMALL_HOLE;
-use fault_text::kind::SHORT_FLANGE;
-use fault_text::kind::SMALL_HOLE;
-use fault_text::kind::THIN_WALL;
-use fault_text::kind::THINNER_THAN_A_LAYER;
-use fault_text::kind::THINNER_THAN_THE_NOZZLE;
-use fault_text::kind::TIGHT_BEND;
-use fault_text::kind::TIGHT_INSIDE_RADIUS;
+use fault_row::flaw::Flaw;
+use fault_row::flaw::row_of;
 use list_cells::wide;
 
-fn machining_rule(kind: u32) -> Rule
-    ensures { λ r. ⌜ r ≡ machiningRule kind ⌝ }
+// The rule of a flaw, as it is told in whatever part.
+pub fn rule_of(flaw: Flaw) -> Rule
+    ensures { λ r. ⌜ ((t : Part) → r ≡ told t flaw .heading .rule) ⌝ }
 {
-    if kind == THIN_WALL {
-        return Rule::ThinWall;
+    match flaw {
+        Flaw::ThinWall(_, _, _, _) => Rule::ThinWall,
+        Flaw::SmallHole(_, _) => Rule::SmallHole,
+        Flaw::DeepHoleMax(_, _, _, _) => Rule::DeepHole,
+        Flaw::DeepHoleStandard(_, _) => Rule::DeepHole,
+        Flaw::TightInsideRadius(_, _) => Rule::TightInsideRadius,
+        Flaw::DeepInsideCorner(_, _, _, _) => Rule::DeepInsideCorner,
+        Flaw::SharpInsideCorner(_, _, _, _) => Rule::SharpInsideCorner,
+        Flaw::NoMaterial => Rule::NoMaterial,
+        Flaw::Material => Rule::Material,
+        Flaw::NotOneThickness(_, _, _) => Rule::NotOneThickness,
+        Flaw::TightBend(_, _, _, _) => Rule::TightBend,
+        Flaw::ShortFlange(_, _, _, _) => Rule::ShortFlange,
+        Flaw::SheetSmallHole(_, _, _) => Rule::SmallHole,
+        Flaw::HoleNearBend(_, _, _, _) => Rule::HoleTooClose,
+        Flaw::HoleNearEdge(_, _, _, _) => Rule::HoleTooClose,
+        Flaw::NotClosed(_) => Rule::NotClosed,
+        Flaw::ThinnerThanALayer(_, _, _) => Rule::ThinnerThanALayer,
+        Flaw::FewLayers(_, _, _, _) => Rule::FewLayers,
+        Flaw::ThinnerThanTheNozzle(_, _, _) => Rule::ThinnerThanTheNozzle,
+        Flaw::PrintThinWall(_, _, _, _) => Rule::ThinWall,
+        Flaw::PrintSmallHole(_, _) => Rule::SmallHole,
+        Flaw::Overhang(_, _) => Rule::Overhang,
+        Flaw::EnclosedHollowSla(_, _) => Rule::EnclosedHollow,
+        Flaw::EnclosedHollowSls(_, _) => Rule::EnclosedHollow,
     }
-    if kind == SMALL_HOLE {
-        return Rule::SmallHole;
-    }
-    if kind == DEEP_HOLE_MAX {
-        return Rule::DeepHole;
-    }
-    if kind == DEEP_HOLE_STANDARD {
-        return Rule::DeepHole;
-    }
-    if kind == TIGHT_INSIDE_RADIUS {
-        return Rule::TightInsideRadius;
-    }
-    if kind == DEEP_INSIDE_CORNER {
-        return Rule::DeepInsideCorner;
-    }
-    if kind == SHARP_INSIDE_CORNER {
-        return Rule::SharpInsideCorner;
-    }
-    Rule::NotClosed
-}
-
-fn sheet_rule(kind: u32) -> Rule
-    ensures { λ r. ⌜ r ≡ sheetRule kind ⌝ }
-{
-    if kind == NO_MATERIAL {
-        return Rule::NoMaterial;
-    }
-    if kind == MATERIAL {
-        return Rule::Material;
-    }
-    if kind == NOT_ONE_THICKNESS {
-        return Rule::NotOneThickness;
-    }
-    if kind == TIGHT_BEND {
-        return Rule::TightBend;
-    }
-    if kind == SHORT_FLANGE {
-        return Rule::ShortFlange;
-    }
-    if kind == SHEET_SMALL_HOLE {
-        return Rule::SmallHole;
-    }
-    if kind == HOLE_NEAR_BEND {
-        return Rule::HoleTooClose;
-    }
-    if kind == HOLE_NEAR_EDGE {
-        return Rule::HoleTooClose;
-    }
-    Rule::NotClosed
-}
-
-fn printing_rule(kind: u32) -> Rule
-    ensures { λ r. ⌜ r ≡ printingRule kind ⌝ }
-{
-    if kind == THINNER_THAN_A_LAYER {
-        return Rule::ThinnerThanALayer;
-    }
-    if kind == FEW_LAYERS {
-        return Rule::FewLayers;
-    }
-    if kind == THINNER_THAN_THE_NOZZLE {
-        return Rule::ThinnerThanTheNozzle;
-    }
-    if kind == PRINT_THIN_WALL {
-        return Rule::ThinWall;
-    }
-    if kind == PRINT_SMALL_HOLE {
-        return Rule::SmallHole;
-    }
-    if kind == OVERHANG {
-        return Rule::Overhang;
-    }
-    if kind == ENCLOSED_HOLLOW_SLA {
-        return Rule::EnclosedHollow;
-    }
-    if kind == ENCLOSED_HOLLOW_SLS {
-        return Rule::EnclosedHollow;
-    }
-    Rule::NotClosed
-}
-
-// The rule of a kind.
-pub fn rule_of(kind: u32) -> Rule
-    ensures { λ r. ⌜ r ≡ ruleOf kind ⌝ }
-{
-    if kind <= SHARP_INSIDE_CORNER {
-        return machining_rule(kind);
-    }
-    if kind <= HOLE_NEAR_EDGE {
-        return sheet_rule(kind);
-    }
-    printing_rule(kind)
 }
 
 // The place of a rule's name in the byte order of all.
@@ -156,10 +67,10 @@ fn rule_rank(rule: Rule) -> usize
     }
 }
 
-// The rank of a fault's line: by severity, then by the name of the rule. There are 54.
-pub fn rank_of(row: FaultRow) -> usize
-    requires { ⌜ row .severity < 3 ⌝ }
-    ensures { λ r. ⌜ r ≡ row .severity * 18 + ruleRank (ruleOf (row .kind)) ⌝ }
+// The rank of a flaw's line: by severity, then by the name of the rule. There are 54.
+pub fn rank_of(flaw: Flaw) -> usize
+    ensures { λ r. ⌜ ((t : Part) → r ≡ rankOf (told t flaw .heading)) ⌝ }
 {
-    wide(row.severity) * 18 + rule_rank(rule_of(row.kind))
+    let row = row_of(flaw);
+    wide(row.severity) * 18 + rule_rank(rule_of(flaw))
 }

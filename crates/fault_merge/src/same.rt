@@ -1,15 +1,16 @@
 // Whether two faults agree in severity, rule and text, and a hash of a text: texts whose hashes differ need not be compared.
 ghost use mathlib.Core.Path.{_≡_};
-ghost use Prim.Native.Nat.{_≤_, _<_};
+ghost use Prim.Native.Nat.{_≤_};
 ghost use lib.ListN.{length, take};
 ghost use Rattle.file_part.specs.Part.{partOf};
 ghost use Rattle.solid_faces.specs.Faces.{Checked};
 ghost use Rattle.fault_lines.specs.Line.{sameText, sameHeading};
-ghost use Rattle.fault_text.specs.Meaning.{textOf};
+ghost use Rattle.fault_text.specs.Told.{textOf};
+ghost use Rattle.fault_text.specs.Good.{Good};
 ghost use Rattle.fault_merge.specs.Hash.{hashOf};
 ghost use Rattle.fault_merge.specs.Rows.{headingOf};
 use crate::rule::rank_of;
-use fault_row::row::FaultRow;
+use fault_row::flaw::Flaw;
 use fault_text::message::put_message;
 
 // A byte as a wide number.
@@ -34,12 +35,12 @@ fn hash(text: &[u8], n: usize) -> u32
 }
 
 // A hash of a fault's text.
-pub fn text_hash(file: &[u8], row: FaultRow) -> u32
-    requires { ⌜ Checked (now file) ⌝ }
-    ensures { λ r. ⌜ r ≡ hashOf (textOf (partOf (now (file .entry))) row) ⌝ }
+pub fn text_hash(file: &[u8], flaw: Flaw) -> u32
+    requires { ⌜ Checked (now file) ⌝ ∗ ⌜ Good (partOf (now file)) flaw ⌝ }
+    ensures { λ r. ⌜ r ≡ hashOf (textOf (partOf (now (file .entry))) flaw) ⌝ }
 {
     let mut text = [0u8; 512];
-    let n = put_message(&mut text, 0, file, row);
+    let n = put_message(&mut text, 0, file, flaw);
     hash(&text, n)
 }
 
@@ -59,8 +60,8 @@ fn same_front(a: &[u8], b: &[u8], n: usize) -> bool
 }
 
 // Whether the texts of two faults agree, byte for byte.
-fn same_text(file: &[u8], r: FaultRow, s: FaultRow) -> bool
-    requires { ⌜ Checked (now file) ⌝ }
+fn same_text(file: &[u8], r: Flaw, s: Flaw) -> bool
+    requires { ⌜ Checked (now file) ⌝ ∗ ⌜ Good (partOf (now file)) r ⌝ ∗ ⌜ Good (partOf (now file)) s ⌝ }
     ensures { λ x. ⌜ x ≡ sameText (textOf (partOf (now (file .entry))) r) (textOf (partOf (now (file .entry))) s) ⌝ }
 {
     let mut a = [0u8; 512];
@@ -74,8 +75,8 @@ fn same_text(file: &[u8], r: FaultRow, s: FaultRow) -> bool
 }
 
 // Whether two faults agree in severity, rule and text. Severity and rule agree where the ranks do.
-pub fn same_heading(file: &[u8], r: FaultRow, s: FaultRow) -> bool
-    requires { ⌜ Checked (now file) ⌝ ∗ ⌜ r .severity < 3 ⌝ ∗ ⌜ s .severity < 3 ⌝ }
+pub fn same_heading(file: &[u8], r: Flaw, s: Flaw) -> bool
+    requires { ⌜ Checked (now file) ⌝ ∗ ⌜ Good (partOf (now file)) r ⌝ ∗ ⌜ Good (partOf (now file)) s ⌝ }
     ensures { λ x. ⌜ x ≡ sameHeading (headingOf (partOf (now (file .entry))) r) (headingOf (partOf (now (file .entry))) s) ⌝ }
 {
     if rank_of(r) != rank_of(s) {

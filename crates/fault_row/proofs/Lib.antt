@@ -7,9 +7,11 @@
 --   row-same, row-kept      a row whose cells and numbers are as they were, and one before those that changed
 --   cells-fit, numbers-fit  a row that is lent lies inside the slices
 --   row-stored, row-lost    what putting a row leaves
--- FaultLaws: faults put as rows
---   faults-none, faults-one, faults-then, faults-same   none, one by a row that means it, one list after another, an equal list
---   faults-before           the rows before them
+--   row-put-same            a row put, by an equal row
+-- FlawLaws: flaws and their rows
+--   flaw-of-row             the flaw of a flaw's row
+--   flaws-none, flaws-one, flaws-then, flaws-same       flaws put as rows: none, one, one list after another, an equal list
+--   flaws-before            the rows before them
 pub mod NameLaws
 pub mod RowLaws
-pub mod FaultLaws
+pub mod FlawLaws

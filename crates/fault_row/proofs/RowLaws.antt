@@ -107,3 +107,8 @@ module _ (cells : List ℕ) (numbers : List Float) (k r : ℕ) (w : FaultRow) (r
         cells-same = λ h. refl;
         numbers-same = λ h. refl;
       }
+
+-- by an equal row
+pub row-put-same : {k r : ℕ} {v w : FaultRow} {cells cells′ : List ℕ} {numbers numbers′ : List Float} → v ≡ w → RowPut k v cells cells′ numbers numbers′ r →
+    RowPut k w cells cells′ numbers numbers′ r
+row-put-same {k} {r} {v} {w} {cells} {cells′} {numbers} {numbers′} e p = subst (λ (u : FaultRow). RowPut k u cells cells′ numbers numbers′ r) e p

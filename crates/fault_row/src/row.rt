@@ -4,13 +4,6 @@ ghost use Prim.Native.Nat.{_+_, _*_, _≤_, _<_, min};
 ghost use lib.ListN.{length};
 ghost use Rattle.fault_row.specs.Row.{rowAt, rowRoom, RowPut};
 
-// The severities of rows.
-pub const ERROR: u32 = 0;
-
-pub const WARNING: u32 = 1;
-
-pub const NOTE: u32 = 2;
-
 // What is kept of a fault, so that its text and its faces follow from the row and the part. A row of zeros is no fault. 48 bytes, for C too.
 #[repr(C)]
 pub struct FaultRow {

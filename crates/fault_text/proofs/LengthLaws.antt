@@ -2,28 +2,27 @@
 use mathlib.Core.Path.{ap, subst}
 use mathlib.Core.Bool.{Bool, true, false, cond}
 use mathlib.Core.List.{List}
-use Prim.Native.Nat.{ℕ, suc, _/_, _%_, _≤_}
+use Prim.Native.Nat.{ℕ, suc, _/_, _%_, _≤_, _<_}
 use native.Mathlib.Omega.{arith}
-use lib.Dec.{eqb, leb}
 use lib.ListN.{length, length-append, length-take}
 use lib.Ieee.{Float}
 use Rattle.num_text.specs.Put.{bytes}
 use Rattle.num_text.specs.Number.{digits, width, numeral, afterPoint, trim, thousandths}
-use Rattle.num_text.specs.Decimal.{decimalText}
 use Rattle.num_text.proofs.NumberLaws.{length-digits, length-numeral, width-le, fraction-front}
 use Rattle.num_text.proofs.DecimalLaws.{decimalText-length}
 use Rattle.file_job.specs.declared.Process.{Process}
 use Rattle.file_job.specs.declared.Process.the-variants.{CncMachining, SheetMetal, Fdm, Sla, Sls}
 use Rattle.file_part.specs.Part.{Part, partOf}
 use Rattle.solid_faces.specs.Faces.{Checked}
-use Rattle.fault_row.specs.declared.row.FaultRow.{FaultRow}
-use Rattle.fault_text.specs.Kind.{thinWall, smallHole, deepHoleMax, deepHoleStandard, tightInsideRadius, deepInsideCorner, sharpInsideCorner, noMaterial, material, notOneThickness, tightBend, shortFlange, sheetSmallHole, holeNearBend, holeNearEdge, notClosed, thinnerThanALayer, fewLayers, thinnerThanTheNozzle, printThinWall, printSmallHole, overhang, enclosedHollowSla, enclosedHollowSls}
+use Rattle.fault_row.specs.declared.flaw.Flaw.{Flaw}
+use Rattle.fault_row.specs.declared.flaw.Flaw.the-variants.{ThinWall, SmallHole, DeepHoleMax, DeepHoleStandard, TightInsideRadius, DeepInsideCorner, SharpInsideCorner, NoMaterial, Material, NotOneThickness, TightBend, ShortFlange, SheetSmallHole, HoleNearBend, HoleNearEdge, NotClosed, ThinnerThanALayer, FewLayers, ThinnerThanTheNozzle, PrintThinWall, PrintSmallHole, Overhang, EnclosedHollowSla, EnclosedHollowSls}
 use Rattle.fault_text.specs.Job.{minWall, nameOr, workName}
 use Rattle.fault_text.specs.Text.{mmPlaces, mm}
-use Rattle.fault_text.specs.Machining.{minDrill, minMillRadius, thinWallText, smallHoleText, deepHoleMaxText, deepHoleStandardText, tightInsideRadiusText, deepInsideCornerText, sharpInsideCornerText, machiningText}
-use Rattle.fault_text.specs.Sheet.{sheetName, ratioText, bendNeed, holeTooCloseText, noMaterialText, materialText, notOneThicknessText, tightBendText, shortFlangeText, sheetSmallHoleText, holeNearBendText, holeNearEdgeText, sheetText}
-use Rattle.fault_text.specs.Printing.{labelOf, twoLayers, limitOf, notClosedText, floorText, thinnerThanALayerText, fewLayersText, thinnerThanTheNozzleText, printThinWallText, printSmallHoleText, overhangText, enclosedHollowSlaText, enclosedHollowSlsText, printingText}
-use Rattle.fault_text.specs.Meaning.{textOf}
+use Rattle.fault_text.specs.Machining.{minDrill, minMillRadius, thinWallText, smallHoleText, deepHoleMaxText, deepHoleStandardText, tightInsideRadiusText, deepInsideCornerText, sharpInsideCornerText}
+use Rattle.fault_text.specs.Sheet.{sheetName, ratioText, bendNeed, holeTooCloseText, noMaterialText, materialText, notOneThicknessText, tightBendText, shortFlangeText, sheetSmallHoleText, holeNearBendText, holeNearEdgeText}
+use Rattle.fault_text.specs.Printing.{labelOf, twoLayers, limitOf, notClosedText, floorText, thinnerThanALayerText, fewLayersText, thinnerThanTheNozzleText, printThinWallText, printSmallHoleText, overhangText, enclosedHollowSlaText, enclosedHollowSlsText}
+use Rattle.fault_text.specs.Told.{told, textOf}
+use Rattle.fault_text.specs.Good.{Good}
 use Rattle.fault_text.proofs.JobLaws.{name-short, ratio-to}
 
 -- ---- a decimal has at most 23 bytes, a name at most 40
@@ -135,9 +134,11 @@ label-short Fdm = omega arith
 label-short Sla = omega arith
 label-short Sls = omega arith
 
-not-closed-short : (x : Float) → length (notClosedText (decimalText x 0)) ≤ 255
+not-closed-short : (edges : ℕ) → edges < 4294967296 → length (notClosedText edges) ≤ 255
 unfolding notClosedText
-not-closed-short x = simp length-append (omega (arith, decimalText-length x 0))
+not-closed-short edges h =
+    let w : width edges ≤ 10 = width-le edges 10 (omega arith) (omega arith) in
+    simp length-append (omega (arith, length-numeral edges, w))
 
 thinner-than-a-layer-short : (x layer : Float) → length (thinnerThanALayerText x layer) ≤ 255
 unfolding thinnerThanALayerText floorText
@@ -172,53 +173,34 @@ enclosed-hollow-sls-short : (volume : Float) → length (enclosedHollowSlsText v
 unfolding enclosedHollowSlsText
 enclosed-hollow-sls-short volume = simp length-append (omega (arith, decimalText-length volume 1))
 
--- ---- one text or another
-either : (b : Bool) (p q : List ℕ) → length p ≤ 255 → length q ≤ 255 → length (cond b p q) ≤ 255
-either true p q h k = h
-either false p q h k = k
-
-machining-short : (t : Part) (row : FaultRow) → length (t .name) ≤ 40 → length (machiningText t row) ≤ 255
-unfolding machiningText
-machining-short t row h =
-    either (eqb (row .kind) thinWall) _ _ (thin-wall-short t (row .x) h)
-    (either (eqb (row .kind) smallHole) _ _ (small-hole-short (row .x))
-    (either (eqb (row .kind) deepHoleMax) _ _ (deep-hole-max-short (row .x) (row .y) (row .z))
-    (either (eqb (row .kind) deepHoleStandard) _ _ (deep-hole-standard-short (row .x))
-    (either (eqb (row .kind) tightInsideRadius) _ _ (tight-inside-radius-short (row .x))
-    (either (eqb (row .kind) deepInsideCorner) _ _ (deep-inside-corner-short (row .x) (row .y) (row .z))
-    (either (eqb (row .kind) sharpInsideCorner) _ _ (sharp-inside-corner-short (row .x) (row .y)) (omega arith)))))))
-
-sheet-short : (t : Part) (row : FaultRow) → length (t .name) ≤ 40 → t .job .material .«bend_ratio» ≤ 100000 → length (sheetText t row) ≤ 255
-unfolding sheetText
-sheet-short t row h r =
-    either (eqb (row .kind) noMaterial) _ _ (no-material-short)
-    (either (eqb (row .kind) material) _ _ (material-short t h)
-    (either (eqb (row .kind) notOneThickness) _ _ (not-one-thickness-short (row .x) (row .y) (row .z))
-    (either (eqb (row .kind) tightBend) _ _ (tight-bend-short t (row .x) (row .y) h r)
-    (either (eqb (row .kind) shortFlange) _ _ (short-flange-short (row .x) (row .y))
-    (either (eqb (row .kind) sheetSmallHole) _ _ (sheet-small-hole-short (row .x) (row .y))
-    (either (eqb (row .kind) holeNearBend) _ _ (hole-near-bend-short (row .x) (row .y))
-    (either (eqb (row .kind) holeNearEdge) _ _ (hole-near-edge-short (row .x) (row .y)) (omega arith))))))))
-
-printing-short : (t : Part) (row : FaultRow) → length (printingText t row) ≤ 255
-unfolding printingText
-printing-short t row =
-    either (eqb (row .kind) notClosed) _ _ (not-closed-short (row .x))
-    (either (eqb (row .kind) thinnerThanALayer) _ _ (thinner-than-a-layer-short (row .x) (t .job .print .layer))
-    (either (eqb (row .kind) fewLayers) _ _ (few-layers-short (row .x) (row .y) (t .job .print .layer))
-    (either (eqb (row .kind) thinnerThanTheNozzle) _ _ (thinner-than-the-nozzle-short (row .x) (t .job .print .nozzle))
-    (either (eqb (row .kind) printThinWall) _ _ (print-thin-wall-short (t .job .process) (row .x) (t .job .print .«min_wall»))
-    (either (eqb (row .kind) printSmallHole) _ _ (print-small-hole-short (row .x) (t .job .print .«min_hole»))
-    (either (eqb (row .kind) overhang) _ _ (overhang-short (row .x) (t .job .print .overhang))
-    (either (eqb (row .kind) enclosedHollowSla) _ _ (enclosed-hollow-sla-short (row .x))
-    (either (eqb (row .kind) enclosedHollowSls) _ _ (enclosed-hollow-sls-short (row .x)) (omega arith)))))))))
-
-pub text-short : (t : Part) (row : FaultRow) → length (t .name) ≤ 40 → t .job .material .«bend_ratio» ≤ 100000 → length (textOf t row) ≤ 255
-unfolding textOf
-text-short t row h r =
-    either (leb (row .kind) sharpInsideCorner) _ _ (machining-short t row h)
-    (either (leb (row .kind) holeNearEdge) _ _ (sheet-short t row h r) (printing-short t row))
+-- ---- of any flaw that is printed
+pub text-short : (t : Part) (f : Flaw) → length (t .name) ≤ 40 → t .job .material .«bend_ratio» ≤ 100000 → Good t f → length (textOf t f) ≤ 255
+unfolding textOf told Good
+text-short t (ThinWall s f g x) h r ok = thin-wall-short t x h
+text-short t (SmallHole f d) h r ok = small-hole-short d
+text-short t (DeepHoleMax f ratio d l) h r ok = deep-hole-max-short ratio d l
+text-short t (DeepHoleStandard f ratio) h r ok = deep-hole-standard-short ratio
+text-short t (TightInsideRadius f radius) h r ok = tight-inside-radius-short radius
+text-short t (DeepInsideCorner f ratio radius l) h r ok = deep-inside-corner-short ratio radius l
+text-short t (SharpInsideCorner f g l fillet) h r ok = sharp-inside-corner-short l fillet
+text-short t NoMaterial h r ok = no-material-short
+text-short t Material h r ok = material-short t h
+text-short t (NotOneThickness lo hi thickness) h r ok = not-one-thickness-short lo hi thickness
+text-short t (TightBend f g radius least) h r ok = tight-bend-short t radius least h r
+text-short t (ShortFlange f g l least) h r ok = short-flange-short l least
+text-short t (SheetSmallHole f d least) h r ok = sheet-small-hole-short d least
+text-short t (HoleNearBend f g gap need) h r ok = hole-near-bend-short gap need
+text-short t (HoleNearEdge f g gap need) h r ok = hole-near-edge-short gap need
+text-short t (NotClosed edges) h r ok = not-closed-short edges (ok .1)
+text-short t (ThinnerThanALayer f g x) h r ok = thinner-than-a-layer-short x (t .job .print .layer)
+text-short t (FewLayers f g x layers) h r ok = few-layers-short x layers (t .job .print .layer)
+text-short t (ThinnerThanTheNozzle f g x) h r ok = thinner-than-the-nozzle-short x (t .job .print .nozzle)
+text-short t (PrintThinWall s f g x) h r ok = print-thin-wall-short (t .job .process) x (t .job .print .«min_wall»)
+text-short t (PrintSmallHole f d) h r ok = print-small-hole-short d (t .job .print .«min_hole»)
+text-short t (Overhang count area) h r ok = overhang-short area (t .job .print .overhang)
+text-short t (EnclosedHollowSla p volume) h r ok = enclosed-hollow-sla-short volume
+text-short t (EnclosedHollowSls p volume) h r ok = enclosed-hollow-sls-short volume
 
 -- of an accepted file
-pub checked-short : (s : List ℕ) (row : FaultRow) → Checked s → length (textOf (partOf s) row) ≤ 255
-checked-short s row h = text-short (partOf s) row (name-short s h) (ratio-to s h)
+pub checked-short : (s : List ℕ) (f : Flaw) → Checked s → Good (partOf s) f → length (textOf (partOf s) f) ≤ 255
+checked-short s f h ok = text-short (partOf s) f (name-short s h) (ratio-to s h) ok

@@ -10,21 +10,15 @@
 -- MmLaws: a length's text
 --   places-below, places-from           its places
 --   mm-accepted                         a length that the decimal writer takes with two places is taken as it is written
--- TextLaws: the text of each kind
---   text-thin-wall, .., machining-none, sheet-none, printing-none       by kind
---   text-machining, text-sheet, text-printing                           by process
 -- LengthLaws: how long texts are
---   text-short, checked-short           at most 255 bytes, by the lengths of name and ratio, and for an accepted file
--- MeaningLaws, SheetLaws, PrintingLaws: rows that rules put, and the faults that they are, by process
---   thin-wall-row, small-hole-row, ..   by kind
---   thin-wall-printed, small-hole-printed, ..           the numbers that a row's text prints are accepted, by kind
---   good-row, good-row-at               such a row is good (MeaningLaws)
---   face-there                          a good row's a is a face, but for hollows
+--   text-short, checked-short           at most 255 bytes where the flaw is printed, by the lengths of name and ratio, and for an accepted file
+-- ToldLaws: flaws and their rows
+--   row-told                            a flaw's row means the flaw as it is told
+--   layer-told, few-layers-told, nozzle-told, print-thin-wall-told, print-small-hole-told, overhang-told     texts, with the job as it was read
+--   good-count                          the count of the row of a flaw that is printed
+--   told-length, told-at, told-append   lists of flaws
 pub mod JobLaws
 pub mod SettingsLaws
 pub mod MmLaws
-pub mod TextLaws
 pub mod LengthLaws
-pub mod MeaningLaws
-pub mod SheetLaws
-pub mod PrintingLaws
+pub mod ToldLaws

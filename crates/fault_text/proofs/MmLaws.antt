@@ -3,7 +3,7 @@ use mathlib.Core.Path.{_≡_}
 use mathlib.Core.Bool.{Bool, true, false, cond}
 use lib.Ieee.{Float, lt}
 use Rattle.num_text.specs.Decimal.{accepted}
-use Rattle.fault_text.specs.Text.{tenth, mmPlaces, mmAccepted}
+use Rattle.fault_text.specs.Text.{tenth, mmPlaces}
 
 pub places-below : (x : Float) → lt x tenth ≡ true → 3 ≡ mmPlaces x
 unfolding mmPlaces
@@ -14,8 +14,8 @@ unfolding mmPlaces
 places-from x e = rw e
 
 -- the writer takes up to three places, so with three it takes the same numbers as with two
-pub mm-accepted : (x : Float) → accepted x 2 ≡ true → mmAccepted x ≡ true
-unfolding mmAccepted mmPlaces accepted
+pub mm-accepted : (x : Float) → accepted x 2 ≡ true → accepted x (mmPlaces x) ≡ true
+unfolding mmPlaces accepted
 mm-accepted x h = go (lt x tenth)
   where
     go : (b : Bool) → accepted x (cond b 3 2) ≡ true

@@ -1,9 +1,9 @@
--- What a fault row means.
-pub mod Kind
+-- What a flaw is told as.
 pub mod Job
 pub mod Text
 pub mod Machining
 pub mod Sheet
 pub mod Printing
 pub mod Many
-pub mod Meaning
+pub mod Told
+pub mod Good

@@ -1,25 +1,14 @@
--- The messages of printing and the faults that have them, as dfm.rs's `printing` pushes them. Definitions only.
-use mathlib.Core.Bool.{Bool, true, _&&_, cond}
-use mathlib.Core.List.{List, [], _∷_, _++_}
+-- The messages of printing, as dfm.rs's `printing` has them. Definitions only.
+use mathlib.Core.List.{List, _++_}
 use Prim.Native.Nat.{ℕ}
 use lib.IntN.{pos}
-use lib.Dec.{eqb}
 use lib.Ieee.{Float, binary64, mul, div, ofInt, ofBits}
 use Rattle.num_text.specs.Put.{bytes}
 use Rattle.num_text.specs.Number.{numeral}
-use Rattle.num_text.specs.Decimal.{decimalText, accepted}
+use Rattle.num_text.specs.Decimal.{decimalText}
 use Rattle.file_job.specs.declared.Process.{Process}
 use Rattle.file_job.specs.declared.Process.the-variants.{CncMachining, SheetMetal, Fdm, Sla, Sls}
-use Rattle.file_part.specs.declared.read.FaceId.{FaceId}
-use Rattle.file_part.specs.Part.{Part}
-use Rattle.solid_ids.specs.Ids.{idOf}
-use Rattle.fault_row.specs.declared.fault.Severity.{Severity}
-use Rattle.fault_row.specs.declared.fault.Severity.the-variants.{Error, Warning}
-use Rattle.fault_row.specs.declared.fault.Rule.the-variants.{EnclosedHollow, FewLayers, NotClosed, Overhang, SmallHole, ThinWall, ThinnerThanALayer, ThinnerThanTheNozzle}
-use Rattle.fault_row.specs.declared.row.FaultRow.{FaultRow}
-use Rattle.fault_row.specs.Fault.{Fault, fault}
-use Rattle.fault_text.specs.Kind.{notClosed, thinnerThanALayer, fewLayers, thinnerThanTheNozzle, printThinWall, printSmallHole, overhang, enclosedHollowSla, enclosedHollowSls}
-use Rattle.fault_text.specs.Text.{mm, mmAccepted}
+use Rattle.fault_text.specs.Text.{mm}
 
 -- ---- from the job
 -- dfm.rs's `label`
@@ -39,9 +28,9 @@ unfoldable pub limitOf : ℕ → Float
 limitOf tenths = div binary64 (ofInt binary64 (pos tenths)) (ofBits binary64 0x4024_0000_0000_0000)
 
 -- ---- messages
--- of document 02, item 3: "the Rust's message with their number"; of the number's text
-unfoldable pub notClosedText : List ℕ → List ℕ
-notClosedText number = bytes "The body has " ++ (number ++ bytes " open edges; a slicer needs a closed solid to tell inside from outside.")
+-- of document 02, item 3: "the Rust's message with their number"
+unfoldable pub notClosedText : ℕ → List ℕ
+notClosedText edges = bytes "The body has " ++ (numeral edges ++ bytes " open edges; a slicer needs a closed solid to tell inside from outside.")
 
 -- the start of the next two
 unfoldable pub floorText : Float → List ℕ
@@ -78,67 +67,3 @@ enclosedHollowSlaText volume =
 unfoldable pub enclosedHollowSlsText : Float → List ℕ
 enclosedHollowSlsText volume =
     bytes "An enclosed hollow of " ++ (decimalText volume 1 ++ bytes " mm³ traps unsintered powder; add escape holes so it can be cleared, or fill it.")
-
--- ---- faults, of faces by their numbers
--- "an Error 'Not closed' .. with no faces, count 1": of so many open keys
-unfoldable pub notClosedFault : ℕ → Fault
-notClosedFault n = fault Error NotClosed (notClosedText (numeral n)) []
-
--- a floor or a roof x thick between f and g
-unfoldable pub thinnerThanALayerFault : Part → ℕ → ℕ → Float → Fault
-thinnerThanALayerFault t f g x = fault Error ThinnerThanALayer (thinnerThanALayerText x (t .job .print .layer)) (idOf t f ∷ idOf t g ∷ [])
-
-unfoldable pub fewLayersFault : Part → ℕ → ℕ → Float → Float → Fault
-fewLayersFault t f g x layers = fault Warning FewLayers (fewLayersText x layers (t .job .print .layer)) (idOf t f ∷ idOf t g ∷ [])
-
--- a wall x thick between f and g
-unfoldable pub thinnerThanTheNozzleFault : Part → ℕ → ℕ → Float → Fault
-thinnerThanTheNozzleFault t f g x = fault Error ThinnerThanTheNozzle (thinnerThanTheNozzleText x (t .job .print .nozzle)) (idOf t f ∷ idOf t g ∷ [])
-
-unfoldable pub printThinWallFault : Part → Severity → ℕ → ℕ → Float → Fault
-printThinWallFault t severity f g x =
-    fault severity ThinWall (printThinWallText (t .job .process) x (t .job .print .«min_wall»)) (idOf t f ∷ idOf t g ∷ [])
-
-unfoldable pub printSmallHoleFault : Part → ℕ → Float → Fault
-printSmallHoleFault t f d = fault Warning SmallHole (printSmallHoleText d (t .job .print .«min_hole»)) (idOf t f ∷ [])
-
--- of so many faces
-unfoldable pub overhangFault : Part → ℕ → List FaceId → Float → Fault
-overhangFault t count faces area = record {
-  heading = record { severity = Warning; rule = Overhang; text = overhangText area (t .job .print .overhang) };
-  count = count;
-  faces = faces;
-}
-
-unfoldable pub enclosedHollowSlaFault : List FaceId → Float → Fault
-enclosedHollowSlaFault faces volume = fault Warning EnclosedHollow (enclosedHollowSlaText volume) faces
-
-unfoldable pub enclosedHollowSlsFault : List FaceId → Float → Fault
-enclosedHollowSlsFault faces volume = fault Error EnclosedHollow (enclosedHollowSlsText volume) faces
-
--- ---- of a row: x and y are what the kind's message prints and the job does not give
-unfoldable pub printingText : Part → FaultRow → List ℕ
-printingText t row =
-    cond (eqb (row .kind) notClosed) (notClosedText (decimalText (row .x) 0))
-    (cond (eqb (row .kind) thinnerThanALayer) (thinnerThanALayerText (row .x) (t .job .print .layer))
-    (cond (eqb (row .kind) fewLayers) (fewLayersText (row .x) (row .y) (t .job .print .layer))
-    (cond (eqb (row .kind) thinnerThanTheNozzle) (thinnerThanTheNozzleText (row .x) (t .job .print .nozzle))
-    (cond (eqb (row .kind) printThinWall) (printThinWallText (t .job .process) (row .x) (t .job .print .«min_wall»))
-    (cond (eqb (row .kind) printSmallHole) (printSmallHoleText (row .x) (t .job .print .«min_hole»))
-    (cond (eqb (row .kind) overhang) (overhangText (row .x) (t .job .print .overhang))
-    (cond (eqb (row .kind) enclosedHollowSla) (enclosedHollowSlaText (row .x))
-    (cond (eqb (row .kind) enclosedHollowSls) (enclosedHollowSlsText (row .x)) []))))))))
-
--- the decimal writer takes every number that it prints
-unfoldable pub printingPrinted : Part → FaultRow → Bool
-printingPrinted t row =
-    cond (eqb (row .kind) notClosed) (accepted (row .x) 0)
-    (cond (eqb (row .kind) thinnerThanALayer) (mmAccepted (row .x) && mmAccepted (t .job .print .layer))
-    (cond (eqb (row .kind) fewLayers)
-    (mmAccepted (row .x) && accepted (row .y) 1 && mmAccepted (t .job .print .layer) && mmAccepted (twoLayers (t .job .print .layer)))
-    (cond (eqb (row .kind) thinnerThanTheNozzle) (mmAccepted (row .x) && mmAccepted (t .job .print .nozzle))
-    (cond (eqb (row .kind) printThinWall) (mmAccepted (row .x) && mmAccepted (t .job .print .«min_wall»))
-    (cond (eqb (row .kind) printSmallHole) (mmAccepted (row .x) && mmAccepted (t .job .print .«min_hole»))
-    (cond (eqb (row .kind) overhang) (accepted (row .x) 1 && accepted (limitOf (t .job .print .overhang)) 0)
-    (cond (eqb (row .kind) enclosedHollowSla) (accepted (row .x) 1)
-    (cond (eqb (row .kind) enclosedHollowSls) (accepted (row .x) 1) true))))))))

@@ -1,10 +1,10 @@
 -- How messages write a length. Definitions only.
-use mathlib.Core.Bool.{Bool, cond}
+use mathlib.Core.Bool.{cond}
 use mathlib.Core.List.{List, _++_}
 use Prim.Native.Nat.{ℕ}
 use lib.Ieee.{Float, binary64, ofBits, lt}
 use Rattle.num_text.specs.Put.{bytes}
-use Rattle.num_text.specs.Decimal.{accepted, decimalText}
+use Rattle.num_text.specs.Decimal.{decimalText}
 
 -- the f64 0.1
 abbrev pub tenth : Float
@@ -18,7 +18,3 @@ mmPlaces x = cond (lt x tenth) 3 2
 -- dfm.rs's `mm`, with these places
 unfoldable pub mm : Float → List ℕ
 mm x = decimalText x (mmPlaces x) ++ bytes " mm"
-
--- the decimal writer takes the length with these places
-unfoldable pub mmAccepted : Float → Bool
-mmAccepted x = accepted x (mmPlaces x)

@@ -1,6 +1,5 @@
-// What a fault row means: the kinds of rows, and the message of each.
+// What a flaw is told as: the message of each kind.
 pub mod job;
-pub mod kind;
 pub mod machining;
 pub mod message;
 pub mod printing;

@@ -2,18 +2,10 @@
 ghost use Rattle.num_text.specs.Put.{Put};
 ghost use Rattle.file_part.specs.Part.{partOf};
 ghost use Rattle.solid_faces.specs.Faces.{Checked};
-ghost use Rattle.fault_text.specs.Machining.{thinWallText, smallHoleText, deepHoleMaxText, deepHoleStandardText, tightInsideRadiusText, deepInsideCornerText, sharpInsideCornerText, machiningText};
+ghost use Rattle.fault_text.specs.Machining.{thinWallText, smallHoleText, deepHoleMaxText, deepHoleStandardText, tightInsideRadiusText, deepInsideCornerText, sharpInsideCornerText};
 use crate::job::min_wall;
 use crate::job::put_name;
-use crate::kind::DEEP_HOLE_MAX;
-use crate::kind::DEEP_HOLE_STANDARD;
-use crate::kind::DEEP_INSIDE_CORNER;
-use crate::kind::SHARP_INSIDE_CORNER;
-use crate::kind::SMALL_HOLE;
-use crate::kind::THIN_WALL;
-use crate::kind::TIGHT_INSIDE_RADIUS;
 use crate::text::put_mm;
-use fault_row::row::FaultRow;
 use num_text::decimal::put_decimal;
 use num_text::put::put_bytes;
 
@@ -117,22 +109,4 @@ pub(crate) fn put_sharp_inside_corner(out: &mut [u8], at: usize, length: f64, fi
     );
     let d = put_mm(out, c, fillet);
     put_bytes(out, d, b", larger for deep pockets).")
-}
-
-// The text of a row of machining; nothing for another.
-pub(crate) fn put_machining(out: &mut [u8], at: usize, file: &[u8], row: FaultRow) -> usize
-    requires { ⌜ Checked (now file) ⌝ }
-    ensures { λ r. ⌜ Put (now (out .entry)) at (machiningText (partOf (now (file .entry))) row) (now (out .exit)) r ⌝ }
-{
-    let kind = row.kind;
-    match kind {
-        THIN_WALL => put_thin_wall(out, at, file, row.x),
-        SMALL_HOLE => put_small_hole(out, at, row.x),
-        DEEP_HOLE_MAX => put_deep_hole_max(out, at, row.x, row.y, row.z),
-        DEEP_HOLE_STANDARD => put_deep_hole_standard(out, at, row.x),
-        TIGHT_INSIDE_RADIUS => put_tight_inside_radius(out, at, row.x),
-        DEEP_INSIDE_CORNER => put_deep_inside_corner(out, at, row.x, row.y, row.z),
-        SHARP_INSIDE_CORNER => put_sharp_inside_corner(out, at, row.x, row.y),
-        _ => at,
-    }
 }

@@ -1,24 +1,11 @@
 // The messages of printing, as dfm.rs's `printing` has them.
 ghost use mathlib.Core.Path.{_≡_};
 ghost use Rattle.num_text.specs.Put.{Put};
-ghost use Rattle.num_text.specs.Decimal.{decimalText};
-ghost use Rattle.file_part.specs.Part.{partOf};
-ghost use Rattle.solid_faces.specs.Faces.{Checked};
-ghost use Rattle.fault_text.specs.Printing.{labelOf, limitOf, notClosedText, floorText, thinnerThanALayerText, fewLayersText, thinnerThanTheNozzleText, printThinWallText, printSmallHoleText, overhangText, enclosedHollowSlaText, enclosedHollowSlsText, printingText};
-use crate::job::job_of;
-use crate::kind::ENCLOSED_HOLLOW_SLA;
-use crate::kind::ENCLOSED_HOLLOW_SLS;
-use crate::kind::FEW_LAYERS;
-use crate::kind::NOT_CLOSED;
-use crate::kind::OVERHANG;
-use crate::kind::PRINT_SMALL_HOLE;
-use crate::kind::PRINT_THIN_WALL;
-use crate::kind::THINNER_THAN_A_LAYER;
-use crate::kind::THINNER_THAN_THE_NOZZLE;
+ghost use Rattle.fault_text.specs.Printing.{labelOf, limitOf, notClosedText, floorText, thinnerThanALayerText, fewLayersText, thinnerThanTheNozzleText, printThinWallText, printSmallHoleText, overhangText, enclosedHollowSlaText, enclosedHollowSlsText};
 use crate::text::put_mm;
-use fault_row::row::FaultRow;
 use file_job::Process;
 use num_text::decimal::put_decimal;
+use num_text::number::put_number;
 use num_text::put::put_bytes;
 
 // dfm.rs's `label`.
@@ -41,12 +28,12 @@ fn overhang_limit(tenths: u32) -> f64
     tenths as f64 / 10.0
 }
 
-// So many open edges, a whole number.
-fn put_not_closed(out: &mut [u8], at: usize, edges: f64) -> usize
-    ensures { λ r. ⌜ Put (now (out .entry)) at (notClosedText (decimalText edges 0)) (now (out .exit)) r ⌝ }
+// So many open edges.
+pub(crate) fn put_not_closed(out: &mut [u8], at: usize, edges: u32) -> usize
+    ensures { λ r. ⌜ Put (now (out .entry)) at (notClosedText edges) (now (out .exit)) r ⌝ }
 {
     let a = put_bytes(out, at, b"The body has ");
-    let b = put_decimal(out, a, edges, 0);
+    let b = put_number(out, a, edges as u64);
     put_bytes(
         out,
         b,
@@ -64,7 +51,7 @@ fn put_floor(out: &mut [u8], at: usize, x: f64) -> usize
 }
 
 // A floor or a roof that is x thick.
-fn put_thinner_than_a_layer(out: &mut [u8], at: usize, x: f64, layer: f64) -> usize
+pub(crate) fn put_thinner_than_a_layer(out: &mut [u8], at: usize, x: f64, layer: f64) -> usize
     ensures { λ r. ⌜ Put (now (out .entry)) at (thinnerThanALayerText x layer) (now (out .exit)) r ⌝ }
 {
     let a = put_floor(out, at, x);
@@ -74,7 +61,7 @@ fn put_thinner_than_a_layer(out: &mut [u8], at: usize, x: f64, layer: f64) -> us
 }
 
 // A floor or a roof that is x thick, which is so many layers.
-fn put_few_layers(out: &mut [u8], at: usize, x: f64, layers: f64, layer: f64) -> usize
+pub(crate) fn put_few_layers(out: &mut [u8], at: usize, x: f64, layers: f64, layer: f64) -> usize
     ensures { λ r. ⌜ Put (now (out .entry)) at (fewLayersText x layers layer) (now (out .exit)) r ⌝ }
 {
     let a = put_floor(out, at, x);
@@ -87,7 +74,7 @@ fn put_few_layers(out: &mut [u8], at: usize, x: f64, layers: f64, layer: f64) ->
 }
 
 // A wall that is x thick.
-fn put_thinner_than_the_nozzle(out: &mut [u8], at: usize, x: f64, nozzle: f64) -> usize
+pub(crate) fn put_thinner_than_the_nozzle(out: &mut [u8], at: usize, x: f64, nozzle: f64) -> usize
     ensures { λ r. ⌜ Put (now (out .entry)) at (thinnerThanTheNozzleText x nozzle) (now (out .exit)) r ⌝ }
 {
     let a = put_bytes(out, at, b"Wall is ");
@@ -98,7 +85,13 @@ fn put_thinner_than_the_nozzle(out: &mut [u8], at: usize, x: f64, nozzle: f64) -
 }
 
 // The same, wider than the nozzle.
-fn put_print_thin_wall(out: &mut [u8], at: usize, process: Process, x: f64, min_wall: f64) -> usize
+pub(crate) fn put_print_thin_wall(
+    out: &mut [u8],
+    at: usize,
+    process: Process,
+    x: f64,
+    min_wall: f64,
+) -> usize
     ensures { λ r. ⌜ Put (now (out .entry)) at (printThinWallText process x «min_wall») (now (out .exit)) r ⌝ }
 {
     let a = put_bytes(out, at, b"Wall is ");
@@ -111,7 +104,7 @@ fn put_print_thin_wall(out: &mut [u8], at: usize, process: Process, x: f64, min_
 }
 
 // A hole that is d across.
-fn put_print_small_hole(out: &mut [u8], at: usize, d: f64, min_hole: f64) -> usize
+pub(crate) fn put_print_small_hole(out: &mut [u8], at: usize, d: f64, min_hole: f64) -> usize
     ensures { λ r. ⌜ Put (now (out .entry)) at (printSmallHoleText d «min_hole») (now (out .exit)) r ⌝ }
 {
     let a = put_bytes(out, at, b"Hole is ");
@@ -126,7 +119,7 @@ fn put_print_small_hole(out: &mut [u8], at: usize, d: f64, min_hole: f64) -> usi
 }
 
 // Faces of this area, and the limit in tenths of a degree.
-fn put_overhang(out: &mut [u8], at: usize, area: f64, tenths: u32) -> usize
+pub(crate) fn put_overhang(out: &mut [u8], at: usize, area: f64, tenths: u32) -> usize
     ensures { λ r. ⌜ Put (now (out .entry)) at (overhangText area tenths) (now (out .exit)) r ⌝ }
 {
     let a = put_decimal(out, at, area, 1);
@@ -140,7 +133,7 @@ fn put_overhang(out: &mut [u8], at: usize, area: f64, tenths: u32) -> usize
 }
 
 // A hollow of this volume, in resin.
-fn put_enclosed_hollow_sla(out: &mut [u8], at: usize, volume: f64) -> usize
+pub(crate) fn put_enclosed_hollow_sla(out: &mut [u8], at: usize, volume: f64) -> usize
     ensures { λ r. ⌜ Put (now (out .entry)) at (enclosedHollowSlaText volume) (now (out .exit)) r ⌝ }
 {
     let a = put_bytes(out, at, b"An enclosed hollow of ");
@@ -153,7 +146,7 @@ fn put_enclosed_hollow_sla(out: &mut [u8], at: usize, volume: f64) -> usize
 }
 
 // The same, in powder.
-fn put_enclosed_hollow_sls(out: &mut [u8], at: usize, volume: f64) -> usize
+pub(crate) fn put_enclosed_hollow_sls(out: &mut [u8], at: usize, volume: f64) -> usize
     ensures { λ r. ⌜ Put (now (out .entry)) at (enclosedHollowSlsText volume) (now (out .exit)) r ⌝ }
 {
     let a = put_bytes(out, at, b"An enclosed hollow of ");
@@ -163,26 +156,4 @@ fn put_enclosed_hollow_sls(out: &mut [u8], at: usize, volume: f64) -> usize
         b,
         b" mm\xc2\xb3 traps unsintered powder; add escape holes so it can be cleared, or fill it.",
     )
-}
-
-// The text of a row of printing; nothing for another.
-pub(crate) fn put_printing(out: &mut [u8], at: usize, file: &[u8], row: FaultRow) -> usize
-    requires { ⌜ Checked (now file) ⌝ }
-    ensures { λ r. ⌜ Put (now (out .entry)) at (printingText (partOf (now (file .entry))) row) (now (out .exit)) r ⌝ }
-{
-    let job = job_of(file);
-    let process = job.process;
-    let kind = row.kind;
-    match kind {
-        NOT_CLOSED => put_not_closed(out, at, row.x),
-        THINNER_THAN_A_LAYER => put_thinner_than_a_layer(out, at, row.x, job.print.layer),
-        FEW_LAYERS => put_few_layers(out, at, row.x, row.y, job.print.layer),
-        THINNER_THAN_THE_NOZZLE => put_thinner_than_the_nozzle(out, at, row.x, job.print.nozzle),
-        PRINT_THIN_WALL => put_print_thin_wall(out, at, process, row.x, job.print.min_wall),
-        PRINT_SMALL_HOLE => put_print_small_hole(out, at, row.x, job.print.min_hole),
-        OVERHANG => put_overhang(out, at, row.x, job.print.overhang),
-        ENCLOSED_HOLLOW_SLA => put_enclosed_hollow_sla(out, at, row.x),
-        ENCLOSED_HOLLOW_SLS => put_enclosed_hollow_sls(out, at, row.x),
-        _ => at,
-    }
 }

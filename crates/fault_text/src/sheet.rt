@@ -2,19 +2,10 @@
 ghost use Rattle.num_text.specs.Put.{Put};
 ghost use Rattle.file_part.specs.Part.{partOf};
 ghost use Rattle.solid_faces.specs.Faces.{Checked};
-ghost use Rattle.fault_text.specs.Sheet.{ratioText, noMaterialText, materialText, notOneThicknessText, bendNeed, tightBendText, shortFlangeText, sheetSmallHoleText, holeTooCloseText, sheetText};
+ghost use Rattle.fault_text.specs.Sheet.{ratioText, noMaterialText, materialText, notOneThicknessText, bendNeed, tightBendText, shortFlangeText, sheetSmallHoleText, holeTooCloseText};
 use crate::job::job_of;
 use crate::job::put_name;
-use crate::kind::HOLE_NEAR_BEND;
-use crate::kind::HOLE_NEAR_EDGE;
-use crate::kind::MATERIAL;
-use crate::kind::NO_MATERIAL;
-use crate::kind::NOT_ONE_THICKNESS;
-use crate::kind::SHEET_SMALL_HOLE;
-use crate::kind::SHORT_FLANGE;
-use crate::kind::TIGHT_BEND;
 use crate::text::put_mm;
-use fault_row::row::FaultRow;
 use num_text::number::put_thousandths;
 use num_text::put::put_bytes;
 
@@ -31,7 +22,7 @@ fn put_ratio(out: &mut [u8], at: usize, file: &[u8]) -> usize
 }
 
 // There is no material.
-fn put_no_material(out: &mut [u8], at: usize) -> usize
+pub(crate) fn put_no_material(out: &mut [u8], at: usize) -> usize
     ensures { λ r. ⌜ Put (now (out .entry)) at noMaterialText (now (out .exit)) r ⌝ }
 {
     put_bytes(
@@ -42,7 +33,7 @@ fn put_no_material(out: &mut [u8], at: usize) -> usize
 }
 
 // The material is no sheet metal.
-fn put_material(out: &mut [u8], at: usize, file: &[u8]) -> usize
+pub(crate) fn put_material(out: &mut [u8], at: usize, file: &[u8]) -> usize
     requires { ⌜ Checked (now file) ⌝ }
     ensures { λ r. ⌜ Put (now (out .entry)) at (materialText (partOf (now (file .entry)))) (now (out .exit)) r ⌝ }
 {
@@ -51,7 +42,13 @@ fn put_material(out: &mut [u8], at: usize, file: &[u8]) -> usize
 }
 
 // The thinnest and the thickest reading, and the sheet's thickness.
-fn put_not_one_thickness(out: &mut [u8], at: usize, lo: f64, hi: f64, thickness: f64) -> usize
+pub(crate) fn put_not_one_thickness(
+    out: &mut [u8],
+    at: usize,
+    lo: f64,
+    hi: f64,
+    thickness: f64,
+) -> usize
     ensures { λ r. ⌜ Put (now (out .entry)) at (notOneThicknessText lo hi thickness) (now (out .exit)) r ⌝ }
 {
     let a = put_bytes(
@@ -78,7 +75,13 @@ fn put_bend_need(out: &mut [u8], at: usize, file: &[u8]) -> usize
 }
 
 // A bend of this inside radius, and the least.
-fn put_tight_bend(out: &mut [u8], at: usize, file: &[u8], radius: f64, min_radius: f64) -> usize
+pub(crate) fn put_tight_bend(
+    out: &mut [u8],
+    at: usize,
+    file: &[u8],
+    radius: f64,
+    min_radius: f64,
+) -> usize
     requires { ⌜ Checked (now file) ⌝ }
     ensures { λ r. ⌜ Put (now (out .entry)) at (tightBendText (partOf (now (file .entry))) radius «min_radius») (now (out .exit)) r ⌝ }
 {
@@ -92,7 +95,7 @@ fn put_tight_bend(out: &mut [u8], at: usize, file: &[u8], radius: f64, min_radiu
 }
 
 // A flange of this length, and the least.
-fn put_short_flange(out: &mut [u8], at: usize, length: f64, min_flange: f64) -> usize
+pub(crate) fn put_short_flange(out: &mut [u8], at: usize, length: f64, min_flange: f64) -> usize
     ensures { λ r. ⌜ Put (now (out .entry)) at (shortFlangeText length «min_flange») (now (out .exit)) r ⌝ }
 {
     let a = put_bytes(out, at, b"Flange reaches ");
@@ -107,7 +110,7 @@ fn put_short_flange(out: &mut [u8], at: usize, length: f64, min_flange: f64) -> 
 }
 
 // A hole that is d across, and the least.
-fn put_sheet_small_hole(out: &mut [u8], at: usize, d: f64, min_hole: f64) -> usize
+pub(crate) fn put_sheet_small_hole(out: &mut [u8], at: usize, d: f64, min_hole: f64) -> usize
     ensures { λ r. ⌜ Put (now (out .entry)) at (sheetSmallHoleText d «min_hole») (now (out .exit)) r ⌝ }
 {
     let a = put_bytes(out, at, b"Hole is ");
@@ -118,7 +121,13 @@ fn put_sheet_small_hole(out: &mut [u8], at: usize, d: f64, min_hole: f64) -> usi
 }
 
 // A hole at this distance from what is named, and the least.
-fn put_hole_too_close(out: &mut [u8], at: usize, what: &[u8], gap: f64, need: f64) -> usize
+pub(crate) fn put_hole_too_close(
+    out: &mut [u8],
+    at: usize,
+    what: &[u8],
+    gap: f64,
+    need: f64,
+) -> usize
     ensures { λ r. ⌜ Put (now (out .entry)) at (holeTooCloseText (now (what .entry)) gap need) (now (out .exit)) r ⌝ }
 {
     let a = put_bytes(out, at, b"Hole edge is ");
@@ -128,23 +137,4 @@ fn put_hole_too_close(out: &mut [u8], at: usize, what: &[u8], gap: f64, need: f6
     let e = put_bytes(out, d, b"; keep at least ");
     let f = put_mm(out, e, need);
     put_bytes(out, f, b" so it does not distort.")
-}
-
-// The text of a row of sheet metal; nothing for another.
-pub(crate) fn put_sheet_metal(out: &mut [u8], at: usize, file: &[u8], row: FaultRow) -> usize
-    requires { ⌜ Checked (now file) ⌝ }
-    ensures { λ r. ⌜ Put (now (out .entry)) at (sheetText (partOf (now (file .entry))) row) (now (out .exit)) r ⌝ }
-{
-    let kind = row.kind;
-    match kind {
-        NO_MATERIAL => put_no_material(out, at),
-        MATERIAL => put_material(out, at, file),
-        NOT_ONE_THICKNESS => put_not_one_thickness(out, at, row.x, row.y, row.z),
-        TIGHT_BEND => put_tight_bend(out, at, file, row.x, row.y),
-        SHORT_FLANGE => put_short_flange(out, at, row.x, row.y),
-        SHEET_SMALL_HOLE => put_sheet_small_hole(out, at, row.x, row.y),
-        HOLE_NEAR_BEND => put_hole_too_close(out, at, b"a bend", row.x, row.y),
-        HOLE_NEAR_EDGE => put_hole_too_close(out, at, b"an edge or another hole", row.x, row.y),
-        _ => at,
-    }
 }

@@ -4,6 +4,7 @@ use mathlib.Core.List.{List}
 use Prim.Native.Nat.{ℕ, _+_, _*_}
 use lib.Dec.{eqb, ltb}
 use lib.ListN.{length}
+use Rattle.refusal.specs.Numbers as refusal
 use Rattle.file_job_ok.specs.Rules.{jobGood}
 use Rattle.file_ok.specs.declared.verdict.Verdict.{Verdict}
 use Rattle.file_ok.specs.declared.verdict.Verdict.the-variants.{Accepted, TooShort, WrongEdition, TooLarge, WrongLength, BadJob, BadVertex, BadPolygon, FlatPolygon, TooManyFaces}
@@ -13,15 +14,15 @@ use Rattle.file_ok.specs.Rules.{verticesGood, polygonsGood}
 -- the number in document 01's table; 0 is none
 unfoldable pub number : Verdict → ℕ
 number Accepted = 0
-number TooShort = 1
-number WrongEdition = 2
-number TooLarge = 3
-number WrongLength = 4
-number BadJob = 5
-number BadVertex = 6
-number BadPolygon = 7
-number FlatPolygon = 8
-number TooManyFaces = 9
+number TooShort = refusal.tooShort
+number WrongEdition = refusal.wrongEdition
+number TooLarge = refusal.tooLarge
+number WrongLength = refusal.wrongLength
+number BadJob = refusal.badJob
+number BadVertex = refusal.badVertex
+number BadPolygon = refusal.badPolygon
+number FlatPolygon = refusal.flatPolygon
+number TooManyFaces = refusal.tooManyFaces
 
 -- 3: "V over 16,384 or P over 4,096"
 unfoldable pub tooLarge : ℕ → ℕ → Bool
@@ -48,5 +49,5 @@ verdictOf s =
     (contentVerdict s (vertexCount s) (polygonCount s)))))
 
 -- ---- 10 comes after 1 to 9: an earlier refusal, or else 10 where too little is lent; 0 for none
-unfoldable pub orTen : ℕ → Bool → ℕ
-orTen earlier little = cond (eqb earlier 0) (cond little 10 0) earlier
+unfoldable pub orTooLittle : ℕ → Bool → ℕ
+orTooLittle earlier little = cond (eqb earlier 0) (cond little refusal.tooLittleScratch 0) earlier

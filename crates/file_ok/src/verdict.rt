@@ -11,6 +11,16 @@ use file_job_ok::rules::job_is_good;
 use file_part::read::entry_at;
 use file_part::read::polygon_count;
 use file_part::read::vertex_count;
+use refusal::ACCEPTED;
+use refusal::BAD_JOB;
+use refusal::BAD_POLYGON;
+use refusal::BAD_VERTEX;
+use refusal::FLAT_POLYGON;
+use refusal::TOO_LARGE;
+use refusal::TOO_MANY_FACES;
+use refusal::TOO_SHORT;
+use refusal::WRONG_EDITION;
+use refusal::WRONG_LENGTH;
 
 // What is wrong with a part file, or nothing: 1 to 9 of the table in this order. The last two are found from the planes and the faces, by
 // the crate above.
@@ -33,16 +43,16 @@ impl Verdict {
         ensures { λ r. ⌜ r ≡ number self ⌝ }
     {
         match self {
-            Verdict::Accepted => 0,
-            Verdict::TooShort => 1,
-            Verdict::WrongEdition => 2,
-            Verdict::TooLarge => 3,
-            Verdict::WrongLength => 4,
-            Verdict::BadJob => 5,
-            Verdict::BadVertex => 6,
-            Verdict::BadPolygon => 7,
-            Verdict::FlatPolygon => 8,
-            Verdict::TooManyFaces => 9,
+            Verdict::Accepted => ACCEPTED,
+            Verdict::TooShort => TOO_SHORT,
+            Verdict::WrongEdition => WRONG_EDITION,
+            Verdict::TooLarge => TOO_LARGE,
+            Verdict::WrongLength => WRONG_LENGTH,
+            Verdict::BadJob => BAD_JOB,
+            Verdict::BadVertex => BAD_VERTEX,
+            Verdict::BadPolygon => BAD_POLYGON,
+            Verdict::FlatPolygon => FLAT_POLYGON,
+            Verdict::TooManyFaces => TOO_MANY_FACES,
         }
     }
 }

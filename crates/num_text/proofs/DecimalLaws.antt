@@ -17,6 +17,7 @@ use lib.Ieee.Positive.{num, den, den-pos}
 use lib.Ieee.Scale.{finite}
 use borrow.Author.Tests.{le-leb, lt-leb}
 use Rattle.num_text.specs.declared.decimal.Answer.{Answer}
+use Rattle.refusal.specs.Numbers.{noDecimal}
 use Rattle.num_text.specs.declared.decimal.Answer.the-variants.{Written, Refused}
 use Rattle.num_text.specs.Decimal.{scaled, pointed, text, zero, limit, accepted, taken, refusal, Writes, decimalText}
 use Rattle.num_text.specs.Work.{Divided}
@@ -208,14 +209,14 @@ module _ (x : Float) (p : ℕ) {before after : List ℕ} {r : Answer} (w : Write
       and-true-r true = refl
       and-true-r false = refl
 
-  number-is : refusal r ≡ cond (accepted x p) 0 13
-  number-is = w .number ∙ ap (λ (b : Bool). cond b 0 13) taken-is
+  number-is : refusal r ≡ cond (accepted x p) 0 noDecimal
+  number-is = w .number ∙ ap (λ (b : Bool). cond b 0 noDecimal) taken-is
 
   pub refused-text : r ≡ Refused → decimalText x p ≡ []
   unfolding decimalText refusal
   refused-text e = go (accepted x p) (text x p) (sym (ap refusal e) ∙ number-is)
     where
-      go : (b : Bool) (l : List ℕ) → _≡_ {A = ℕ} 13 (cond b 0 13) → cond b l [] ≡ []
+      go : (b : Bool) (l : List ℕ) → _≡_ {A = ℕ} noDecimal (cond b 0 noDecimal) → cond b l [] ≡ []
       go true l h = absurd (omega arith)
       go false l h = refl
 
@@ -229,7 +230,7 @@ module _ (x : Float) (p : ℕ) {before after : List ℕ} {r : Answer} (w : Write
       let filled : after ≡ text x p ++ drop (length (text x p)) before = w .buffer ∙ (rw t) in
       rw yes (is, rw is filled)
     where
-      go : (b : Bool) → _≡_ {A = ℕ} 0 (cond b 0 13) → b ≡ true
+      go : (b : Bool) → _≡_ {A = ℕ} 0 (cond b 0 noDecimal) → b ≡ true
       go true h = refl
       go false h = absurd (omega arith)
 

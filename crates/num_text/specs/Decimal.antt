@@ -9,6 +9,7 @@ use lib.ListN.{length, drop}
 use lib.Ieee.{Float, fin, le, lt}
 use lib.Ieee.Nearest.{closest}
 use lib.Ieee.Positive.{num, den}
+use Rattle.refusal.specs.Numbers.{noDecimal}
 use Rattle.num_text.specs.declared.decimal.Answer.{Answer}
 use Rattle.num_text.specs.declared.decimal.Answer.the-variants.{Written, Refused}
 use Rattle.num_text.specs.Number.{positional, digits, numeral, afterPoint}
@@ -49,13 +50,13 @@ taken x p room = accepted x p && leb 24 room
 -- the number of the refusal in the table, 0 for none
 unfoldable pub refusal : Answer → ℕ
 refusal (Written n) = 0
-refusal Refused = 13
+refusal Refused = noDecimal
 
 -- The answer r to x with p places, and the buffer before and after the call.
 -- "An accepted report or decimal fills the first bytes of its buffer and changes none after them"; a refusal changes nothing.
 pub record Writes (x : Float) (p : ℕ) (before after : List ℕ) (r : Answer) : Type 0 where
   pub answer : r ≡ cond (taken x p (length before)) (Written (length (text x p))) Refused
-  pub number : refusal r ≡ cond (taken x p (length before)) 0 13
+  pub number : refusal r ≡ cond (taken x p (length before)) 0 noDecimal
   pub buffer : after ≡ cond (taken x p (length before)) (text x p ++ drop (length (text x p)) before) before
 
 -- what is written at a position, where no slice is too short: nothing where the number or the places are refused

@@ -8,30 +8,31 @@ use native.Mathlib.Omega.{arith}
 use lib.Dec.{eqb, ltb}
 use lib.ListN.{length}
 use borrow.Author.Tests.{eqb-true, eqb-false, eq-eqb, ne-eqb, lt-ltb, le-ltb, ltb-false, not-false}
+use Rattle.refusal.specs.Numbers as refusal
 use Rattle.file_ok.specs.Verdict.{tooLarge}
 use Rattle.obj_text.specs.declared.judge.Tally.{Tally}
 use Rattle.obj_text.specs.Text.{lineRefusal, facesOf, cornersOf}
 use Rattle.obj_text.specs.Judged.{Tables, Judged}
 use Rattle.obj_part.specs.File.{objRefusal}
 use Rattle.obj.specs.declared.convert.Converted.the-variants as Converted
-use Rattle.obj.specs.Converts.{accepts, Converts}
+use Rattle.obj.specs.Converts.{numberOf, lengthOf, accepts, Converts}
 use Rattle.obj.specs.Work.{sizeRefusal, tallyRefusal, Written}
 
 -- ---- 3, 5 and 16
 module _ (v p job room : ℕ) where
-  pub size-vertices : 16384 < v → 3 ≡ sizeRefusal v p job room
+  pub size-vertices : 16384 < v → refusal.tooLarge ≡ sizeRefusal v p job room
   unfolding sizeRefusal tooLarge
   size-vertices h = rw (lt-ltb 16384 v h)
 
-  pub size-polygons : v ≤ 16384 → 4096 < p → 3 ≡ sizeRefusal v p job room
+  pub size-polygons : v ≤ 16384 → 4096 < p → refusal.tooLarge ≡ sizeRefusal v p job room
   unfolding sizeRefusal tooLarge
   size-polygons h k = rw (le-ltb 16384 v h, lt-ltb 4096 p k)
 
-  pub size-job : v ≤ 16384 → p ≤ 4096 → (job ≡ 128 → ⊥) → 5 ≡ sizeRefusal v p job room
+  pub size-job : v ≤ 16384 → p ≤ 4096 → (job ≡ 128 → ⊥) → refusal.badJob ≡ sizeRefusal v p job room
   unfolding sizeRefusal tooLarge
   size-job h k n = rw (le-ltb 16384 v h, le-ltb 4096 p k, ne-eqb job 128 n)
 
-  pub size-room : v ≤ 16384 → p ≤ 4096 → job ≡ 128 → room < 24 * v + 80 * p + 144 → 16 ≡ sizeRefusal v p job room
+  pub size-room : v ≤ 16384 → p ≤ 4096 → job ≡ 128 → room < 24 * v + 80 * p + 144 → refusal.outputTooShort ≡ sizeRefusal v p job room
   unfolding sizeRefusal tooLarge
   size-room h k n l = rw (le-ltb 16384 v h, le-ltb 4096 p k, eq-eqb job 128 n, lt-ltb room (24 * v + 80 * p + 144) l)
 
@@ -124,9 +125,9 @@ accepted text job room h =
     let v = length (cornersOf text) in
     let p = length (facesOf text) in
     let a = lines-passed (lineRefusal text) _ h in
-    let b = past (ltb 16384 v || ltb 4096 p) 3 _ (λ e. omega (arith, e)) (a .1) in
-    let c = past (not (eqb job 128)) 5 _ (λ e. omega (arith, e)) (b .1) in
-    let d = past (ltb room (24 * v + 80 * p + 144)) 16 0 (λ e. omega (arith, e)) (c .1) in
+    let b = past (ltb 16384 v || ltb 4096 p) refusal.tooLarge _ (λ e. omega (arith, e)) (a .1) in
+    let c = past (not (eqb job 128)) refusal.badJob _ (λ e. omega (arith, e)) (b .1) in
+    let d = past (ltb room (24 * v + 80 * p + 144)) refusal.outputTooShort 0 (λ e. omega (arith, e)) (c .1) in
     let n = neither (ltb 16384 v) (ltb 4096 p) (b .0) in
     record {
       lines = a .0;
@@ -138,14 +139,14 @@ accepted text job room h =
 
 -- ---- the answer
 pub converts-refused : (text job out : List ℕ) (k : ℕ) → k ≡ objRefusal text (length job) (length out) → (k ≡ 0 → ⊥) → Converts text job out out (Converted.Refused k)
-unfolding accepts
+unfolding accepts numberOf lengthOf
 converts-refused text job out k e h =
     let not-good : eqb (objRefusal text (length job) (length out)) 0 ≡ false = ne-eqb _ 0 (λ (q : objRefusal text (length job) (length out) ≡ 0). h (e ∙ q)) in
-    record { answer = rw not-good (ap Converted.Refused e); buffer = rw not-good }
+    record { answer = rw not-good (ap Converted.Refused e); number = e; size = rw not-good; buffer = rw not-good }
 
 pub converts-written : (text job before after : List ℕ) (r : ℕ) → objRefusal text (length job) (length before) ≡ 0 → Written text job before after r
     → Converts text job before after (Converted.Written r)
-unfolding accepts
+unfolding accepts numberOf lengthOf
 converts-written text job before after r e w =
     let good : eqb (objRefusal text (length job) (length before)) 0 ≡ true = eq-eqb _ 0 e in
-    record { answer = rw good (ap Converted.Written (w .length-is)); buffer = rw good (w .buffer-is) }
+    record { answer = rw good (ap Converted.Written (w .length-is)); number = sym e; size = rw good (w .length-is); buffer = rw good (w .buffer-is) }

@@ -6,6 +6,7 @@ use Prim.Native.Nat.{ℕ, zero, suc, _+_, _-_, _≤_, _<_}
 use lib.Dec.{eqb, ltb}
 use lib.ListN.{length, take, drop, getD}
 use lib.Ieee.{Float}
+use Rattle.refusal.specs.Numbers as refusal
 use Rattle.math.specs.declared.Vec3.{Vec3}
 use Rattle.file_part.specs.Layout.{sizeOf}
 use Rattle.file_ok.specs.Verdict.{tooLarge}
@@ -18,7 +19,7 @@ use Rattle.obj_part.specs.File.{partFile}
 
 -- 3, 5 and 16
 unfoldable pub sizeRefusal : ℕ → ℕ → ℕ → ℕ → ℕ
-sizeRefusal v p job room = cond (tooLarge v p) 3 (cond (not (eqb job 128)) 5 (cond (ltb room (sizeOf v p)) 16 0))
+sizeRefusal v p job room = cond (tooLarge v p) refusal.tooLarge (cond (not (eqb job 128)) refusal.badJob (cond (ltb room (sizeOf v p)) refusal.outputTooShort 0))
 
 -- and before them 14 and 15
 unfoldable pub tallyRefusal : Tally → ℕ → ℕ → ℕ

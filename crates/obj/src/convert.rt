@@ -6,6 +6,10 @@ ghost use Rattle.obj.specs.Work.{sizeRefusal, tallyRefusal};
 use crate::write::write;
 use obj_text::judge::Tally;
 use obj_text::judge::judge;
+use refusal::ACCEPTED;
+use refusal::BAD_JOB;
+use refusal::OUTPUT_TOO_SHORT;
+use refusal::TOO_LARGE;
 
 // How long the file is that was written, or the number of the refusal: 14, 15, 3, 5 or 16.
 pub enum Converted {
@@ -18,25 +22,25 @@ fn size_refusal(vertices: usize, polygons: usize, job: usize, room: usize) -> u3
     ensures { λ r. ⌜ r ≡ sizeRefusal vertices polygons job room ⌝ }
 {
     if 16384 < vertices {
-        return 3;
+        return TOO_LARGE;
     }
     if 4096 < polygons {
-        return 3;
+        return TOO_LARGE;
     }
     if job != 128 {
-        return 5;
+        return BAD_JOB;
     }
     if room < 24 * vertices + 80 * polygons + 144 {
-        return 16;
+        return OUTPUT_TOO_SHORT;
     }
-    0
+    ACCEPTED
 }
 
 // What refuses a text, 0 for none.
 fn refusal_of(t: Tally, job: usize, room: usize) -> u32
     ensures { λ r. ⌜ r ≡ tallyRefusal t job room ⌝ }
 {
-    if t.refusal != 0 {
+    if t.refusal != ACCEPTED {
         return t.refusal;
     }
     size_refusal(t.corners, t.polygons, job, room)
@@ -63,7 +67,7 @@ pub fn obj_to_part(text: &[u8], job: &[u8], out: &mut [u8]) -> Converted
         &mut zs,
     );
     let refusal = refusal_of(t, job.len(), out.len());
-    if refusal != 0 {
+    if refusal != ACCEPTED {
         return Converted::Refused(refusal);
     }
     let length = write(

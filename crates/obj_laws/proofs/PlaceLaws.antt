@@ -9,6 +9,7 @@ use lib.Dec.{eqb, ltb}
 use lib.ListN.{length, take, drop, getD, length-append}
 use lib.Seq.{drop-append-add, drop-drop, drop-cons, drop-at}
 use borrow.Author.Tests.{eqb-true, eqb-false}
+use Rattle.refusal.specs.Numbers as refusal
 use Rattle.file_part.specs.Layout.{entryAt, sizeOf}
 use Rattle.file_ok.specs.Verdict.{tooLarge}
 use Rattle.file_ok.proofs.VerdictLaws.{small}
@@ -40,17 +41,17 @@ written text job room h = first (eqb (lineRefusal text) 0) refl h
     p = length (facesOf text)
 
     rest : ℕ
-    rest = cond (ltb room (sizeOf v p)) 16 0
+    rest = cond (ltb room (sizeOf v p)) refusal.outputTooShort 0
 
-    third : (b : Bool) → lineRefusal text ≡ 0 → (v ≤ 16384) × (p ≤ 4096) → eqb (length job) 128 ≡ b → cond (not b) 5 rest ≡ 0 → Written text job
+    third : (b : Bool) → lineRefusal text ≡ 0 → (v ≤ 16384) × (p ≤ 4096) → eqb (length job) 128 ≡ b → cond (not b) refusal.badJob rest ≡ 0 → Written text job
     third true l s t e = record { lines = l; vertices-to = s .0; polygons-to = s .1; job-length = eqb-true (length job) 128 t }
     third false l s t e = absurd (omega (arith, e))
 
-    second : (b : Bool) → lineRefusal text ≡ 0 → tooLarge v p ≡ b → cond b 3 (cond (not (eqb (length job) 128)) 5 rest) ≡ 0 → Written text job
+    second : (b : Bool) → lineRefusal text ≡ 0 → tooLarge v p ≡ b → cond b refusal.tooLarge (cond (not (eqb (length job) 128)) refusal.badJob rest) ≡ 0 → Written text job
     second true l t e = absurd (omega (arith, e))
     second false l t e = third (eqb (length job) 128) l (small-enough v p t) refl e
 
-    first : (b : Bool) → eqb (lineRefusal text) 0 ≡ b → cond (not b) (lineRefusal text) (cond (tooLarge v p) 3 (cond (not (eqb (length job) 128)) 5 rest)) ≡ 0 → Written text job
+    first : (b : Bool) → eqb (lineRefusal text) 0 ≡ b → cond (not b) (lineRefusal text) (cond (tooLarge v p) refusal.tooLarge (cond (not (eqb (length job) 128)) refusal.badJob rest)) ≡ 0 → Written text job
     first true t e = second (tooLarge v p) (eqb-true (lineRefusal text) 0 t) refl e
     first false t e = absurd (eqb-false (lineRefusal text) 0 t e)
 

@@ -23,7 +23,7 @@ use Rattle.solid_faces.specs.Faces.{someFlat, tooManyFaces, bodyVerdict}
 use Rattle.obj_text.specs.Text.{facesOf, cornersFrom, cornersOf, vertexOf}
 use Rattle.obj_text.proofs.BoundLaws.{corners-all}
 use Rattle.obj_part.specs.File.{partFile, objRefusal}
-use Rattle.obj_laws.specs.Refusals.{cornersGood, textVerdict, CanMeet, none, five, six, eight, nine}
+use Rattle.obj_laws.specs.Refusals.{cornersGood, textVerdict, CanMeet, none, bad-job, bad-vertex, flat-polygon, too-many-faces}
 use Rattle.obj_laws.proofs.FieldLaws.{entry-kind, entry-zero, entry-unused}
 use Rattle.obj_laws.proofs.PlaceLaws.{Written, written, firstOf, trailer, entry-place, job-place}
 use Rattle.obj_laws.proofs.JobLaws.{all-same, job-good-in}
@@ -127,10 +127,10 @@ orBody v flat many = cond (eqb (number v) 0) (cond flat FlatPolygon (cond many T
 
 one-of : (job vertices flat many : Bool) → CanMeet (number (orBody (cond (not job) BadJob (cond (not vertices) BadVertex Accepted)) flat many))
 unfolding number
-one-of false vertices flat many = five
-one-of true false flat many = six
-one-of true true true many = eight
-one-of true true false true = nine
+one-of false vertices flat many = bad-job
+one-of true false flat many = bad-vertex
+one-of true true true many = flat-polygon
+one-of true true false true = too-many-faces
 one-of true true false false = none
 
 body-is : (s : List ℕ) → bodyVerdict s ≡ orBody (verdictOf s) (someFlat (partOf s)) (tooManyFaces (partOf s))

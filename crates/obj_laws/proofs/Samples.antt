@@ -10,6 +10,7 @@ use Rattle.obj_number.specs.Whole.{isDigit, allDigits, valueFrom, valueOf, isWh
 use Rattle.obj_number.specs.Decimal.{isSign, isMinus, unsigned, digitsOf, isUnsigned, isDecimal, nearestOf, decimalOf}
 use Rattle.obj_line.specs.Split.{piece, split, linesOf, squeeze, separate, fieldsOf}
 use Rattle.obj_line.specs.Form.{vertexForm, isPositive, allPositive, faceForm, groupForm, fieldsForm, formOf, largest}
+use Rattle.refusal.specs.Numbers.{badJob, badLine, undefinedVertex, outputTooShort}
 use Rattle.obj_text.specs.Text.{formsOf, refusalFrom, lineRefusal, verticesFrom, verticesOf, facesFrom, facesOf, cornersFrom, cornersOf, vertexOf}
 use Rattle.obj_part.specs.File.{objRefusal}
 use Rattle.obj_laws.specs.Found.{faceOf}
@@ -21,10 +22,10 @@ triangle = bytes "# a triangle\nv 0 0 -0\nv 1 0 0\nv 0 +.5 0\n\ng 7\nf 1 02  3"
 -- none; one byte of room too few; a job of 127 bytes; a number not yet defined, before a line of no form; a line of no form, before such a number
 refusals :
     (objRefusal triangle 128 296 ≡ 0)
-    × (objRefusal triangle 128 295 ≡ 16)
-    × (objRefusal triangle 127 295 ≡ 5)
-    × (objRefusal (bytes "v 0 0 0\nf 1 1 2\nv 0 0") 128 296 ≡ 15)
-    × (objRefusal (bytes "v 0 0 0 \nf 1 1 2") 128 296 ≡ 14)
+    × (objRefusal triangle 128 295 ≡ outputTooShort)
+    × (objRefusal triangle 127 295 ≡ badJob)
+    × (objRefusal (bytes "v 0 0 0\nf 1 1 2\nv 0 0") 128 296 ≡ undefinedVertex)
+    × (objRefusal (bytes "v 0 0 0 \nf 1 1 2") 128 296 ≡ badLine)
 unfolding triangle objRefusal tooLarge lineRefusal formsOf refusalFrom facesOf facesFrom cornersOf cornersFrom linesOf split piece squeeze separate fieldsOf formOf fieldsForm vertexForm faceForm groupForm allPositive isPositive largest isDecimal isUnsigned unsigned isSign digitsOf before after allDigits isDigit isWhole valueOf valueFrom
 refusals = (refl, refl, refl, refl, refl)
 

@@ -3,6 +3,7 @@ use mathlib.Core.Bool.{Bool, not, cond}
 use mathlib.Core.List.{List}
 use Prim.Native.Nat.{ℕ}
 use lib.ListN.{length, getD}
+use Rattle.refusal.specs.Numbers.{badJob, badVertex, flatPolygon, tooManyFaces}
 use Rattle.list_laws.specs.Below.{allBelow}
 use Rattle.file_field.specs.Test.{isPoint}
 use Rattle.file_job_ok.specs.Rules.{jobGood}
@@ -21,7 +22,7 @@ textVerdict text job = cond (not (jobGood job 0)) BadJob (cond (not (cornersGood
 -- "The written file can meet 5, 6, 8 and 9 when it is checked"; 0 for none. 10 to 12 are of what is lent beside the file
 pub data CanMeet : ℕ → Type 0 where
   none : CanMeet 0
-  five : CanMeet 5
-  six : CanMeet 6
-  eight : CanMeet 8
-  nine : CanMeet 9
+  bad-job : CanMeet badJob
+  bad-vertex : CanMeet badVertex
+  flat-polygon : CanMeet flatPolygon
+  too-many-faces : CanMeet tooManyFaces

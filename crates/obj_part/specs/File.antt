@@ -4,6 +4,7 @@ use mathlib.Core.List.{List, [], _∷_, _++_}
 use Prim.Native.Nat.{ℕ, _+_}
 use lib.Dec.{eqb, ltb}
 use lib.ListN.{length}
+use Rattle.refusal.specs.Numbers as refusal
 use Rattle.file_part.specs.Layout.{sizeOf}
 use Rattle.file_ok.specs.Verdict.{tooLarge}
 use Rattle.obj_text.specs.Text.{lineRefusal, Face, facesOf, cornersOf, vertexOf}
@@ -31,6 +32,6 @@ partFile text job =
 unfoldable pub objRefusal : List ℕ → ℕ → ℕ → ℕ
 objRefusal text job room =
     cond (not (eqb (lineRefusal text) 0)) (lineRefusal text)
-    (cond (tooLarge (length (cornersOf text)) (length (facesOf text))) 3
-    (cond (not (eqb job 128)) 5
-    (cond (ltb room (sizeOf (length (cornersOf text)) (length (facesOf text)))) 16 0)))
+    (cond (tooLarge (length (cornersOf text)) (length (facesOf text))) refusal.tooLarge
+    (cond (not (eqb job 128)) refusal.badJob
+    (cond (ltb room (sizeOf (length (cornersOf text)) (length (facesOf text)))) refusal.outputTooShort 0)))

@@ -13,6 +13,7 @@ use lib.Ieee.{binary64, fits}
 use lib.Ieee.Fits.{round-fits}
 use lib.Ieee.Bits.{ofBits-fits}
 use borrow.Author.Tests.{leb-true, ltb-true}
+use Rattle.refusal.specs.Numbers.{undefinedVertex}
 use Rattle.math.specs.declared.Vec3.{Vec3}
 use Rattle.obj_number.specs.Whole.{isWhole, valueOf}
 use Rattle.obj_number.specs.Decimal.{isDecimal, nearestOf, decimalOf}
@@ -167,7 +168,7 @@ face-defined : (n : ℕ) (ns : List ℕ) (fs : List Form) → refusalFrom n (fac
 unfolding refusalFrom
 face-defined n ns fs h = go (leb (largest ns) n) refl h
   where
-    go : (b : Bool) → leb (largest ns) n ≡ b → cond b (refusalFrom n fs) 15 ≡ 0 → (largest ns ≤ n) × (refusalFrom n fs ≡ 0)
+    go : (b : Bool) → leb (largest ns) n ≡ b → cond b (refusalFrom n fs) undefinedVertex ≡ 0 → (largest ns ≤ n) × (refusalFrom n fs ≡ 0)
     go true t e = (leb-true (largest ns) n t, e)
     go false t e = absurd (omega (arith, e))
 

@@ -9,6 +9,7 @@ use lib.Dec.{leb}
 use lib.ListN.{length, set, length-map, length-append}
 use lib.Seq.{sets, length-sets, set-out}
 use lib.Ieee.{Float}
+use Rattle.refusal.specs.Numbers.{undefinedVertex}
 use Rattle.math.specs.declared.Vec3.{Vec3}
 use Rattle.obj_number.specs.Whole.{capped}
 use Rattle.obj_line.specs.declared.line.Corners.{Corners}
@@ -199,7 +200,7 @@ module _ (t : Tally) (C : t .corners ≤ 16385) (P : t .polygons ≤ 4097) where
       after : Tally
       after = record { refusal = t .refusal; defined = t .defined; corners = min (t .corners + length ns) 16385; polygons = min (t .polygons + 1) 4097; index = t .index }
 
-      go : (b : Bool) → cond b after (refusing t 15) .refusal ≡ 0 → Progress (face ns) t (cond b after (refusing t 15))
+      go : (b : Bool) → cond b after (refusing t undefinedVertex) .refusal ≡ 0 → Progress (face ns) t (cond b after (refusing t undefinedVertex))
       go true e = record {
         formed = λ (e : face ns ≡ other). clash cc;
         defined-then = sym (add-zero (t .defined));

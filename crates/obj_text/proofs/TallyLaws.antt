@@ -9,6 +9,7 @@ use native.Mathlib.Omega.{arith}
 use lib.Dec.{leb}
 use lib.ListN.{length, length-append}
 use borrow.Author.Tests.{eq-eqb, ne-eqb, le-leb, lt-leb}
+use Rattle.refusal.specs.Numbers.{badLine, undefinedVertex}
 use Rattle.math.specs.declared.Vec3.{Vec3}
 use Rattle.obj_number.specs.Whole.{capped}
 use Rattle.obj_line.specs.declared.line.Corners.{Corners}
@@ -35,12 +36,12 @@ pub add-skipped : (t : Tally) (line : Line) → line ≡ Line.Skipped → t ≡ 
 unfolding tallied
 add-skipped t line e = sym (ap (tallied t) e)
 
-pub add-other : (t r : Tally) (line : Line) → line ≡ Line.Other → r ≡ refusing t 14 → r ≡ tallied t line
+pub add-other : (t r : Tally) (line : Line) → line ≡ Line.Other → r ≡ refusing t badLine → r ≡ tallied t line
 unfolding tallied
 add-other t r line e k = k ∙ sym (ap (tallied t) e)
 
 face-refused : (t : Tally) (c : Corners) → t .defined < c .largest
-    → tallied t (Line.Face c) ≡ refusing t 15
+    → tallied t (Line.Face c) ≡ refusing t undefinedVertex
 unfolding tallied
 face-refused t c h = rw (lt-leb (c .largest) (t .defined) h)
 
@@ -49,7 +50,7 @@ face-counted : (t : Tally) (c : Corners) → c .largest ≤ t .defined
 unfolding tallied
 face-counted t c h = rw (le-leb (c .largest) (t .defined) h)
 
-pub add-refused : (t r : Tally) (line : Line) (c : Corners) → line ≡ Line.Face c → t .defined < c .largest → r ≡ refusing t 15 → r ≡ tallied t line
+pub add-refused : (t r : Tally) (line : Line) (c : Corners) → line ≡ Line.Face c → t .defined < c .largest → r ≡ refusing t undefinedVertex → r ≡ tallied t line
 add-refused t r line c e h k = k ∙ sym (ap (tallied t) e ∙ face-refused t c h)
 
 pub add-face : (t : Tally) (line : Line) (c : Corners) (a b : ℕ) → line ≡ Line.Face c → c .largest ≤ t .defined → a ≡ min (t .corners + c .count) 16385 → b ≡ min (t .polygons + 1) 4097
@@ -78,7 +79,7 @@ module _ (t : Tally) (C : t .corners ≤ 16385) (P : t .polygons ≤ 4097) where
       go : (b : Bool)
           → Grown t
           (cond b (record { refusal = t .refusal; defined = t .defined; corners = min (t .corners + c .count) 16385; polygons = min (t .polygons + 1) 4097; index = t .index })
-          (refusing t 15))
+          (refusing t undefinedVertex))
       go true = record { defined-to = omega arith; corners-to = omega arith; polygons-to = omega arith }
       go false = grown-same _ (omega arith) refl refl
   grown (Line.Group n) = grown-same _ (omega arith) refl refl
@@ -133,7 +134,7 @@ face-passes : (n : ℕ) (ns : List ℕ) (fs : List Form) → largest ns ≤ n �
 unfolding refusalFrom
 face-passes n ns fs h = rw (le-leb (largest ns) n h)
 
-face-stops : (n : ℕ) (ns : List ℕ) (fs : List Form) → n < largest ns → refusalFrom n (face ns ∷ fs) ≡ 15
+face-stops : (n : ℕ) (ns : List ℕ) (fs : List Form) → n < largest ns → refusalFrom n (face ns ∷ fs) ≡ undefinedVertex
 unfolding refusalFrom
 face-stops n ns fs h = rw (lt-leb (largest ns) n h)
 
@@ -167,14 +168,14 @@ outcome (face ns ∷ fs) t i z d C P = go (decLe (largest ns) (t .defined)) (out
         }
     go (no h) o =
         let more : t .defined < largest ns = omega (arith, h) in
-        let k : refusalFrom (t .defined) (face ns ∷ fs) ≡ 15 = face-stops (t .defined) ns fs more in
-        let r : Tally = refusing t 15 in
+        let k : refusalFrom (t .defined) (face ns ∷ fs) ≡ undefinedVertex = face-stops (t .defined) ns fs more in
+        let r : Tally = refusing t undefinedVertex in
         subst (λ (x : Tally). Outcome t i (face ns ∷ fs) x)
-        (tally-stop t r (Line.Face c) (face ns) fs refl (sym (face-refused t c (capped-gt (largest ns) (t .defined) (omega arith) more))) (λ (e : _≡_ {A = ℕ} 15 0). omega arith))
+        (tally-stop t r (Line.Face c) (face ns) fs refl (sym (face-refused t c (capped-gt (largest ns) (t .defined) (omega arith) more))) (λ (e : _≡_ {A = ℕ} undefinedVertex 0). omega arith))
         record {
           refusal = sym k;
-          corners = λ e. never-zero 15 (omega arith) (sym k ∙ e);
-          polygons = λ e. never-zero 15 (omega arith) (sym k ∙ e);
+          corners = λ e. never-zero undefinedVertex (omega arith) (sym k ∙ e);
+          polygons = λ e. never-zero undefinedVertex (omega arith) (sym k ∙ e);
         }
 outcome (group j ∷ fs) t i z d C P =
     let r : Tally = record { refusal = t .refusal; defined = t .defined; corners = t .corners; polygons = t .polygons; index = j } in
@@ -186,9 +187,9 @@ outcome (skipped ∷ fs) t i z d C P =
     subst (λ (x : Tally). Outcome t i (skipped ∷ fs) x) (tally-more t t Line.Skipped skipped fs refl refl z)
     record { refusal = o .refusal; corners = o .corners; polygons = o .polygons }
 outcome (other ∷ fs) t i z d C P =
-    let r : Tally = refusing t 14 in
-    subst (λ (x : Tally). Outcome t i (other ∷ fs) x) (tally-stop t r Line.Other other fs refl refl (λ (e : _≡_ {A = ℕ} 14 0). omega arith))
-    record { refusal = refl; corners = λ (e : _≡_ {A = ℕ} 14 0). never-zero 14 (omega arith) e; polygons = λ (e : _≡_ {A = ℕ} 14 0). never-zero 14 (omega arith) e }
+    let r : Tally = refusing t badLine in
+    subst (λ (x : Tally). Outcome t i (other ∷ fs) x) (tally-stop t r Line.Other other fs refl refl (λ (e : _≡_ {A = ℕ} badLine 0). omega arith))
+    record { refusal = refl; corners = λ (e : _≡_ {A = ℕ} badLine 0). never-zero badLine (omega arith) e; polygons = λ (e : _≡_ {A = ℕ} badLine 0). never-zero badLine (omega arith) e }
 
 pub record Told (text : List ℕ) (t : Tally) : Type 0 where
   pub refusal : t .refusal ≡ lineRefusal text

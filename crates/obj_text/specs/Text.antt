@@ -5,6 +5,7 @@ use Prim.Native.Nat.{ℕ, _+_, _-_}
 use lib.Dec.{leb}
 use lib.ListN.{getD}
 use lib.Ieee.{binary64, ofBits}
+use Rattle.refusal.specs.Numbers.{badLine, undefinedVertex}
 use Rattle.math.specs.declared.Vec3.{Vec3}
 use Rattle.obj_line.specs.Split.{linesOf}
 use Rattle.obj_line.specs.Form.{Form, vertex, face, group, skipped, other, formOf, largest}
@@ -18,10 +19,10 @@ formsOf text = map formOf (linesOf text)
 unfoldable pub refusalFrom : ℕ → List Form → ℕ
 refusalFrom n [] = 0
 refusalFrom n (vertex v ∷ fs) = refusalFrom (n + 1) fs
-refusalFrom n (face ns ∷ fs) = cond (leb (largest ns) n) (refusalFrom n fs) 15
+refusalFrom n (face ns ∷ fs) = cond (leb (largest ns) n) (refusalFrom n fs) undefinedVertex
 refusalFrom n (group i ∷ fs) = refusalFrom n fs
 refusalFrom n (skipped ∷ fs) = refusalFrom n fs
-refusalFrom n (other ∷ fs) = 14
+refusalFrom n (other ∷ fs) = badLine
 
 unfoldable pub lineRefusal : List ℕ → ℕ
 unfolding refusalFrom formsOf

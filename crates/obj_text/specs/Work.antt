@@ -7,6 +7,7 @@ use lib.Dec.{eqb, leb}
 use lib.ListN.{length, drop}
 use lib.Seq.{sets}
 use lib.Ieee.{Float}
+use Rattle.refusal.specs.Numbers.{badLine, undefinedVertex}
 use Rattle.math.specs.declared.Vec3.{Vec3}
 use Rattle.obj_line.specs.declared.line.Line.{Line}
 use Rattle.obj_line.specs.declared.line.Line.the-variants as Line
@@ -25,10 +26,10 @@ tallied t (Line.Vertex v) = record { refusal = t .refusal; defined = t .defined 
 tallied t (Line.Face c) =
     cond (leb (c .largest) (t .defined))
     (record { refusal = t .refusal; defined = t .defined; corners = min (t .corners + c .count) 16385; polygons = min (t .polygons + 1) 4097; index = t .index })
-    (refusing t 15)
+    (refusing t undefinedVertex)
 tallied t (Line.Group n) = record { refusal = t .refusal; defined = t .defined; corners = t .corners; polygons = t .polygons; index = n }
 tallied t Line.Skipped = t
-tallied t Line.Other = refusing t 14
+tallied t Line.Other = refusing t badLine
 
 -- and after more lines, up to one that is refused
 unfoldable pub tallyFrom : Tally → List Form → Tally

@@ -8,6 +8,9 @@ ghost use Rattle.obj_text.specs.Work.{refusing, tallied, KeptVertex, Kep
 use obj_line::line::Line;
 use obj_line::line::read_line;
 use obj_number::cut::find;
+use refusal::ACCEPTED;
+use refusal::BAD_LINE;
+use refusal::UNDEFINED_VERTEX;
 
 // The refusal, 0 for none; how many vertices are defined; how many corners and polygons there are, up to one more than a part file can hold;
 // and the face index in use.
@@ -58,7 +61,7 @@ fn add_line(t: Tally, line: Line) -> Tally
         },
         Line::Face(c) => {
             if (t.defined as u64) < c.largest {
-                return refused(t, 15);
+                return refused(t, UNDEFINED_VERTEX);
             }
             let corners = add_up_to(t.corners, c.count, 16385);
             let polygons = add_up_to(t.polygons, 1, 4097);
@@ -78,7 +81,7 @@ fn add_line(t: Tally, line: Line) -> Tally
             index: n,
         },
         Line::Skipped => t,
-        Line::Other => refused(t, 14),
+        Line::Other => refused(t, BAD_LINE),
     }
 }
 
@@ -154,7 +157,7 @@ pub fn judge(
     ensures { λ r. ⌜ Judged (now (text .entry)) (tables (now (numbers .entry)) (now (indices .entry)) (now (counts .entry)) (now (xs .entry)) (now (ys .entry)) (now (zs .entry))) (tables (now (numbers .exit)) (now (indices .exit)) (now (counts .exit)) (now (xs .exit)) (now (ys .exit)) (now (zs .exit))) r ⌝ }
 {
     let mut t = Tally {
-        refusal: 0,
+        refusal: ACCEPTED,
         defined: 0,
         corners: 0,
         polygons: 0,
@@ -164,7 +167,7 @@ pub fn judge(
     while at <= text.len() {
         let end = at + find(&text[at..], b'\n');
         t = note_line(&text[at..end], t, numbers, indices, counts, xs, ys, zs);
-        if t.refusal != 0 {
+        if t.refusal != ACCEPTED {
             return t;
         }
         at = end + 1;

@@ -20,26 +20,26 @@ use Rattle.wall_pairs.specs.declared.NextWall.{NextWall}
 use Rattle.wall_pairs.specs.Work.{readingOrder, WallsOrdered, WallsTo, NextWallIs}
 use Rattle.wall_pairs.proofs.WallLaws.{walls-start, next-wall, walls-end}
 use Rattle.print_height.specs.Height.{upOf}
-use Rattle.fault_row.specs.Fault.{Fault}
-use Rattle.fault_row.specs.Faults.{FaultsPut}
-use Rattle.fault_row.proofs.FaultLaws.{faults-none, faults-then, faults-same}
-use Rattle.fault_text.specs.Meaning.{faultOf, GoodRow}
-use Rattle.print_walls.specs.Walls.{thinnestOf, wallFault, printWalls}
+use Rattle.fault_row.specs.declared.flaw.Flaw.{Flaw}
+use Rattle.fault_row.specs.Flaws.{FlawsPut}
+use Rattle.fault_row.proofs.FlawLaws.{flaws-none, flaws-then, flaws-same}
+use Rattle.fault_text.specs.Good.{Good}
+use Rattle.print_walls.specs.Walls.{thinnestOf, wallFlaw, printWalls}
 use Rattle.print_walls.specs.declared.Thinnest.{Thinnest}
-use Rattle.print_walls.specs.Work.{faultBy, WallPut}
+use Rattle.print_walls.specs.Work.{flawBy, WallPut}
 use Rattle.print_walls.proofs.ThinnestLaws.{thinnest-bounds}
 
-abbrev ofWall : Part → ℕ → ℕ → List ℕ → List Fault
-ofWall t f g l = wallFault t f g (thinnestOf t (upOf t) l)
+abbrev ofWall : Part → ℕ → ℕ → List ℕ → List Flaw
+ofWall t f g l = wallFlaw t f g (thinnestOf t (upOf t) l)
 
 -- at place i of the order the faults of the walls before are put
 pub record WallsMet (t : Part) (i from : ℕ) (cells cells′ : List ℕ) (numbers numbers′ : List Float) (k : ℕ) : Type 0 where
-  pub faults : List Fault
-  pub met : WallsTo t (ofWall t) i faults
-  pub put : FaultsPut (faultOf t) (GoodRow t) from faults cells cells′ numbers numbers′ k
+  pub flaws : List Flaw
+  pub met : WallsTo t (ofWall t) i flaws
+  pub put : FlawsPut (Good t) from flaws cells cells′ numbers numbers′ k
 
 pub met-none : (t : Part) (from : ℕ) (cells : List ℕ) (numbers : List Float) → WallsMet t 0 from cells cells numbers numbers from
-met-none t from cells numbers = record { faults = []; met = walls-start t (ofWall t); put = faults-none from cells numbers }
+met-none t from cells numbers = record { flaws = []; met = walls-start t (ofWall t); put = flaws-none from cells numbers }
 
 -- in the words of `put_wall`
 pub wall-room : (s : List ℕ) (at : Regions) (words : List ℕ) (reals : List Float) → WallsOrdered s at words reals → {i from k : ℕ} (faces : NextWall) → from ≤ 65536 → k ≤ from + i →
@@ -56,14 +56,14 @@ up-is : (t : Part) (job : Job) (up : Vec3) → job ≡ t .job → up ≡ normali
 unfolding upOf
 up-is t job up same e = e ∙ ap (λ (j : Job). normalizedOf (j .print .up)) same
 
-by-both : (t : Part) (f g : ℕ) (e : Thinnest) → faultBy (e .stacked) t f g (e .thickness) ≡ wallFault t f g e
-unfolding faultBy wallFault
+by-both : (t : Part) (f g : ℕ) (e : Thinnest) → flawBy (e .stacked) t f g (e .thickness) ≡ wallFlaw t f g e
+unfolding flawBy wallFlaw
 by-both t f g e = refl
 
 pub met-next : (s : List ℕ) (at : Regions) (words : List ℕ) (reals : List Float) → WallsOrdered s at words reals → {i from k r : ℕ} {c c′ c″ : List ℕ} {n n′ n″ : List Float}
     (faces : NextWall) (wall : Thinnest) (job : Job) (up : Vec3) → job ≡ partOf s .job → up ≡ normalizedOf (job .print .up) → NextWallIs (partOf s) at words reals i faces →
     wall ≡ thinnestOf (partOf s) up (part i (faces .end) (readingOrder at words)) → WallsMet (partOf s) i from c c′ n n′ k →
-    WallPut (faultBy (wall .stacked)) (job .print) faces (wall .thickness) k c′ c″ n′ n″ r → WallsMet (partOf s) (faces .end) from c c″ n n″ r
+    WallPut (flawBy (wall .stacked)) (job .print) faces (wall .thickness) k c′ c″ n′ n″ r → WallsMet (partOf s) (faces .end) from c c″ n n″ r
 met-next s at words reals o {i} faces wall job up same normal is e m p =
     let t = partOf s in
     let l = part i (faces .end) (readingOrder at words) in
@@ -71,15 +71,15 @@ met-next s at words reals o {i} faces wall job up same normal is e m p =
     let bounds : ReadingBounds (wall .thickness) =
     subst (λ (x : Thinnest). ReadingBounds (x .thickness)) (sym found) (thinnest-bounds s at words reals o (upOf t) i (faces .end) (is .run .more) (is .run .inside)) in
     record {
-      faults = m .faults ++ ofWall t (faces .first) (faces .second) l;
-      met = next-wall s at words reals o i faces is (ofWall t) (m .faults) (m .met);
+      flaws = m .flaws ++ ofWall t (faces .first) (faces .second) l;
+      met = next-wall s at words reals o i faces is (ofWall t) (m .flaws) (m .met);
       put =
-          faults-then (m .put)
-          (faults-same (by-both t (faces .first) (faces .second) wall ∙ ap (wallFault t (faces .first) (faces .second)) found)
+          flaws-then (m .put)
+          (flaws-same (by-both t (faces .first) (faces .second) wall ∙ ap (wallFlaw t (faces .first) (faces .second)) found)
           (p .put s (o .standing .placed .checked) (ap (λ (j : Job). j .print) same) (is .first-below) (is .second-below) bounds));
     }
 
 pub met-all : (t : Part) {i from k : ℕ} {cells cells′ : List ℕ} {numbers numbers′ : List Float} → length (readingsOf t) ≤ i → WallsMet t i from cells cells′ numbers numbers′ k →
-    FaultsPut (faultOf t) (GoodRow t) from (printWalls t) cells cells′ numbers numbers′ k
+    FlawsPut (Good t) from (printWalls t) cells cells′ numbers numbers′ k
 unfolding printWalls
-met-all t {i} past m = faults-same (walls-end t (ofWall t) i (m .faults) past (m .met)) (m .put)
+met-all t {i} past m = flaws-same (walls-end t (ofWall t) i (m .flaws) past (m .met)) (m .put)

@@ -17,8 +17,9 @@ use Rattle.wall_pairs.specs.Walls.{overWalls}
 use Rattle.print_height.specs.Height.{upOf}
 use Rattle.fault_row.specs.declared.fault.Severity.{Severity}
 use Rattle.fault_row.specs.declared.fault.Severity.the-variants.{Error, Warning}
-use Rattle.fault_row.specs.Fault.{Fault}
-use Rattle.fault_text.specs.Printing.{twoLayers, thinnerThanALayerFault, fewLayersFault, thinnerThanTheNozzleFault, printThinWallFault}
+use Rattle.fault_row.specs.declared.flaw.Flaw.{Flaw}
+use Rattle.fault_row.specs.declared.flaw.Flaw.the-variants.{ThinnerThanALayer, FewLayers, ThinnerThanTheNozzle, PrintThinWall}
+use Rattle.fault_text.specs.Printing.{twoLayers}
 use Rattle.print_walls.specs.declared.Thinnest.{Thinnest}
 
 -- the f64 0.99
@@ -46,24 +47,24 @@ thinnestOf t up (k ∷ l) = thinnestFrom t up (record { thickness = inf false; s
 
 -- ---- the fault of a wall x thick between faces f and g: none or one
 -- `t < need`, then `t + 1e-9 < print.layer`
-unfoldable pub floorFault : Part → ℕ → ℕ → Float → List Fault
-floorFault t f g x =
+unfoldable pub floorFlaw : Part → ℕ → ℕ → Float → List Flaw
+floorFlaw t f g x =
     cond (lt x (twoLayers (t .job .print .layer)))
-    (cond (lt (add binary64 x e-9) (t .job .print .layer)) (thinnerThanALayerFault t f g x ∷ []) (fewLayersFault t f g x (div binary64 x (t .job .print .layer)) ∷ [])) []
+    (cond (lt (add binary64 x e-9) (t .job .print .layer)) (ThinnerThanALayer f g x ∷ []) (FewLayers f g x (div binary64 x (t .job .print .layer)) ∷ [])) []
 
 -- `print.nozzle.is_none() && t < 0.5 * print.min_wall`
 unfoldable pub wallSeverity : Part → Float → Severity
 wallSeverity t x = cond (not (t .job .print .«has_nozzle») && lt x (mul binary64 half (t .job .print .«min_wall»))) Error Warning
 
 -- `Some(n) if t + 1e-9 < n`, then `t + 1e-9 < print.min_wall`
-unfoldable pub sideFault : Part → ℕ → ℕ → Float → List Fault
-sideFault t f g x =
-    cond (t .job .print .«has_nozzle» && lt (add binary64 x e-9) (t .job .print .nozzle)) (thinnerThanTheNozzleFault t f g x ∷ [])
-    (cond (lt (add binary64 x e-9) (t .job .print .«min_wall»)) (printThinWallFault t (wallSeverity t x) f g x ∷ []) [])
+unfoldable pub sideFlaw : Part → ℕ → ℕ → Float → List Flaw
+sideFlaw t f g x =
+    cond (t .job .print .«has_nozzle» && lt (add binary64 x e-9) (t .job .print .nozzle)) (ThinnerThanTheNozzle f g x ∷ [])
+    (cond (lt (add binary64 x e-9) (t .job .print .«min_wall»)) (PrintThinWall (wallSeverity t x) f g x ∷ []) [])
 
-unfoldable pub wallFault : Part → ℕ → ℕ → Thinnest → List Fault
-wallFault t f g e = cond (e .stacked) (floorFault t f g (e .thickness)) (sideFault t f g (e .thickness))
+unfoldable pub wallFlaw : Part → ℕ → ℕ → Thinnest → List Flaw
+wallFlaw t f g e = cond (e .stacked) (floorFlaw t f g (e .thickness)) (sideFlaw t f g (e .thickness))
 
 -- `for ((a, b), (t, stacked)) in thinnest`
-unfoldable pub printWalls : Part → List Fault
-printWalls t = overWalls t (λ f g l. wallFault t f g (thinnestOf t (upOf t) l))
+unfoldable pub printWalls : Part → List Flaw
+printWalls t = overWalls t (λ f g l. wallFlaw t f g (thinnestOf t (upOf t) l))

@@ -4,26 +4,20 @@ ghost use Prim.Native.Nat.{_+_, _≤_, _<_};
 ghost use lib.ListN.{length, getD};
 ghost use lib.Ieee.{lt};
 ghost use Rattle.num_real.specs.Select.{absOf};
-ghost use Rattle.math.specs.Vector.{zero, dotOf};
+ghost use Rattle.math.specs.Vector.{dotOf};
 ghost use Rattle.list_laws.specs.Region.{part};
 ghost use Rattle.file_part.specs.Part.{partOf};
 ghost use Rattle.wall_samples.specs.Samples.{readingsOf, sampleOf};
 ghost use Rattle.wall_samples.specs.Stored.{reading};
 ghost use Rattle.wall_pairs.specs.Work.{Counted, readingOrder, WallsOrdered};
-ghost use Rattle.fault_row.specs.Row.{row};
-ghost use Rattle.fault_row.specs.Faults.{FaultsPut};
-ghost use Rattle.fault_text.specs.Meaning.{faultOf, GoodRow};
-ghost use Rattle.print_walls.specs.Walls.{ninety-nine, thinnestOf, floorFault, sideFault, printWalls};
-ghost use Rattle.print_walls.specs.Work.{withSample, underNozzle, severityNumber, faultBy, WallPut};
-use fault_row::row::ERROR;
-use fault_row::row::FaultRow;
-use fault_row::row::WARNING;
-use fault_row::row::put_row;
+ghost use Rattle.fault_row.specs.Flaws.{FlawsPut};
+ghost use Rattle.fault_text.specs.Good.{Good};
+ghost use Rattle.print_walls.specs.Walls.{ninety-nine, thinnestOf, floorFlaw, sideFlaw, printWalls};
+ghost use Rattle.print_walls.specs.Work.{withSample, underNozzle, severityBy, flawBy, WallPut};
+use fault_row::fault::Severity;
+use fault_row::flaw::Flaw;
+use fault_row::flaw::put_flaw;
 use fault_text::job::job_of;
-use fault_text::kind::FEW_LAYERS;
-use fault_text::kind::PRINT_THIN_WALL;
-use fault_text::kind::THINNER_THAN_A_LAYER;
-use fault_text::kind::THINNER_THAN_THE_NOZZLE;
 use file_job::PrintSettings;
 use list_cells::cell;
 use math::Vec3;
@@ -106,24 +100,6 @@ fn thinnest_reading(
     least
 }
 
-// The row of a wall between two faces.
-fn wall_row(faces: NextWall, kind: u32, severity: u32, x: f64, y: f64) -> FaultRow
-    requires { ⌜ faces .first < 4294967296 ⌝ ∗ ⌜ faces .second < 4294967296 ⌝ }
-    ensures { λ r. ⌜ r ≡ row kind severity 1 (faces .first) (faces .second) 0 x y zero ⌝ }
-{
-    FaultRow {
-        kind: kind,
-        severity: severity,
-        count: 1,
-        a: faces.first as u32,
-        b: faces.second as u32,
-        waived: 0,
-        x: x,
-        y: y,
-        z: 0.0,
-    }
-}
-
 // A floor or roof x thick.
 fn put_floor(
     cells: &mut [u32],
@@ -134,16 +110,16 @@ fn put_floor(
     print: PrintSettings,
 ) -> usize
     requires { ⌜ from < 4294967296 ⌝ ∗ ⌜ faces .first < 4294967296 ⌝ ∗ ⌜ faces .second < 4294967296 ⌝ }
-    ensures { λ r. ⌜ WallPut floorFault print faces x from (now (cells .entry)) (now (cells .exit)) (now (numbers .entry)) (now (numbers .exit)) r ⌝ }
+    ensures { λ r. ⌜ WallPut floorFlaw print faces x from (now (cells .entry)) (now (cells .exit)) (now (numbers .entry)) (now (numbers .exit)) r ⌝ }
 {
     let layer = print.layer;
     if x < 2.0 * layer {
         if x + 1e-9 < layer {
-            let row = wall_row(faces, THINNER_THAN_A_LAYER, ERROR, x, 0.0);
-            return put_row(cells, numbers, from, row);
+            let flaw = Flaw::ThinnerThanALayer(faces.first as u32, faces.second as u32, x);
+            return put_flaw(cells, numbers, from, flaw);
         }
-        let row = wall_row(faces, FEW_LAYERS, WARNING, x, x / layer);
-        return put_row(cells, numbers, from, row);
+        let flaw = Flaw::FewLayers(faces.first as u32, faces.second as u32, x, x / layer);
+        return put_flaw(cells, numbers, from, flaw);
     }
     from
 }
@@ -159,16 +135,16 @@ fn is_under_nozzle(x: f64, print: PrintSettings) -> bool
 }
 
 // Without a nozzle, a wall thinner than half of what is needed can't be made.
-fn severity(x: f64, print: PrintSettings) -> u32
-    ensures { λ r. ⌜ r ≡ severityNumber print x ⌝ }
+fn severity(x: f64, print: PrintSettings) -> Severity
+    ensures { λ r. ⌜ r ≡ severityBy print x ⌝ }
 {
     if print.has_nozzle {
-        return WARNING;
+        return Severity::Warning;
     }
     if x < 0.5 * print.min_wall {
-        return ERROR;
+        return Severity::Error;
     }
-    WARNING
+    Severity::Warning
 }
 
 // A wall x thick that is no floor or roof.
@@ -181,16 +157,20 @@ fn put_side(
     print: PrintSettings,
 ) -> usize
     requires { ⌜ from < 4294967296 ⌝ ∗ ⌜ faces .first < 4294967296 ⌝ ∗ ⌜ faces .second < 4294967296 ⌝ }
-    ensures { λ r. ⌜ WallPut sideFault print faces x from (now (cells .entry)) (now (cells .exit)) (now (numbers .entry)) (now (numbers .exit)) r ⌝ }
+    ensures { λ r. ⌜ WallPut sideFlaw print faces x from (now (cells .entry)) (now (cells .exit)) (now (numbers .entry)) (now (numbers .exit)) r ⌝ }
 {
     if is_under_nozzle(x, print) {
-        let row = wall_row(faces, THINNER_THAN_THE_NOZZLE, ERROR, x, 0.0);
-        return put_row(cells, numbers, from, row);
+        let flaw = Flaw::ThinnerThanTheNozzle(faces.first as u32, faces.second as u32, x);
+        return put_flaw(cells, numbers, from, flaw);
     }
     if x + 1e-9 < print.min_wall {
-        let rank = severity(x, print);
-        let row = wall_row(faces, PRINT_THIN_WALL, rank, x, 0.0);
-        return put_row(cells, numbers, from, row);
+        let flaw = Flaw::PrintThinWall(
+            severity(x, print),
+            faces.first as u32,
+            faces.second as u32,
+            x,
+        );
+        return put_flaw(cells, numbers, from, flaw);
     }
     from
 }
@@ -205,7 +185,7 @@ fn put_wall(
     print: PrintSettings,
 ) -> usize
     requires { ⌜ from < 4294967296 ⌝ ∗ ⌜ faces .first < 4294967296 ⌝ ∗ ⌜ faces .second < 4294967296 ⌝ }
-    ensures { λ r. ⌜ WallPut (faultBy (wall .stacked)) print faces (wall .thickness) from (now (cells .entry)) (now (cells .exit)) (now (numbers .entry)) (now (numbers .exit)) r ⌝ }
+    ensures { λ r. ⌜ WallPut (flawBy (wall .stacked)) print faces (wall .thickness) from (now (cells .entry)) (now (cells .exit)) (now (numbers .entry)) (now (numbers .exit)) r ⌝ }
 {
     let x = wall.thickness;
     if wall.stacked {
@@ -224,7 +204,7 @@ pub fn put_print_walls(
     given: Given,
 ) -> usize
     requires { ⌜ WallsOrdered (now file) (given .at) (now words) (now reals) ⌝ ∗ ⌜ Counted (partOf (now file)) (given .counts) ⌝ ∗ ⌜ given .from ≤ 65536 ⌝ }
-    ensures { λ r. ⌜ FaultsPut (faultOf (partOf (now (file .entry)))) (GoodRow (partOf (now (file .entry)))) (given .from) (printWalls (partOf (now (file .entry)))) (now (cells .entry)) (now (cells .exit)) (now (numbers .entry)) (now (numbers .exit)) r ⌝ ∗ ⌜ r ≤ given .from + length (readingsOf (partOf (now (file .entry)))) ⌝ }
+    ensures { λ r. ⌜ FlawsPut (Good (partOf (now (file .entry)))) (given .from) (printWalls (partOf (now (file .entry)))) (now (cells .entry)) (now (cells .exit)) (now (numbers .entry)) (now (numbers .exit)) r ⌝ ∗ ⌜ r ≤ given .from + length (readingsOf (partOf (now (file .entry)))) ⌝ }
 {
     let at = given.at;
     let counts = given.counts;

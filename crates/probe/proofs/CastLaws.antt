@@ -10,6 +10,7 @@ use lib.Ieee.{Float, nan}
 use borrow.Author.Tests.{ltb-false}
 use Rattle.num_float.proofs.Tests.{or-false-left, or-false-right}
 use Rattle.file_part.specs.Part.{Part, partOf}
+use Rattle.refusal.specs.Numbers.{tooLittleScratch}
 use Rattle.file_ok.proofs.RefusalLaws.{earlier-is, earlier-none}
 use Rattle.scratch.specs.declared.regions.Regions.{Regions}
 use Rattle.scratch.specs.Standing.{Placed}
@@ -57,7 +58,7 @@ module _ (s words : List ℕ) (reals rays : List Float) (polygons : List ℕ) (t
       record { answer = earlier-is r _ _ e other; refused = λ _. (refl, refl, refl, refl); body = λ z. absurd (other z); cast = λ z. absurd (other z) }
 
   pub cast-short : r ≡ 0 → (ltb (length polygons) (raysIn (length rays)) || ltb (length times) (raysIn (length rays))) ≡ true →
-      RaysCast s words words reals reals rays polygons polygons times times 10
+      RaysCast s words words reals reals rays polygons polygons times times tooLittleScratch
   cast-short none t =
       record {
         answer = earlier-none _ _ true (sym e ∙ none) t;

@@ -9,6 +9,7 @@ use lib.ListN.{length, set}
 use lib.Ieee.{Float}
 use borrow.Author.Tests.{lt-ltb, le-ltb}
 use Rattle.file_part.specs.Part.{Part, partOf}
+use Rattle.refusal.specs.Numbers.{tooLittleScratch}
 use Rattle.file_ok.proofs.RefusalLaws.{earlier-is, earlier-none}
 use Rattle.scratch.specs.Refusal.{bodyRefusal}
 use Rattle.wall_ray.specs.declared.strike.Ray.{Ray}
@@ -40,7 +41,7 @@ module _ (s words : List ℕ) (reals rays : List Float) (cells : List ℕ) (r : 
   open-refused other =
       record { answer = earlier-is r _ _ e other; refused = λ _. (refl, refl, refl); body = λ z. absurd (other z); opened = λ z. absurd (other z) }
 
-  pub open-short : r ≡ 0 → length cells < raysIn (length rays) → RaysOpen s words words reals reals rays cells cells 10
+  pub open-short : r ≡ 0 → length cells < raysIn (length rays) → RaysOpen s words words reals reals rays cells cells tooLittleScratch
   open-short none few =
       record {
         answer = earlier-none _ _ true (sym e ∙ none) (lt-ltb _ _ few);

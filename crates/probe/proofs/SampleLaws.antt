@@ -12,6 +12,7 @@ use Rattle.num_float.proofs.Tests.{or-false-left, or-false-right}
 use Rattle.file_part.specs.Layout.{polygonCount}
 use Rattle.file_part.specs.Part.{Part, partOf}
 use Rattle.file_part.proofs.PartLaws.{part-polygons}
+use Rattle.refusal.specs.Numbers.{tooLittleScratch}
 use Rattle.file_ok.proofs.RefusalLaws.{earlier-is, earlier-none}
 use Rattle.solid_faces.specs.Faces.{Checked}
 use Rattle.solid_faces.proofs.BodyLaws.{checked-number}
@@ -129,13 +130,13 @@ module _ (s words : List ℕ) (reals : List Float) (faces : List ℕ) (numbers :
   samples-refused other = unchanged r other (earlier-is r _ _ e other)
 
   module _ (z : r ≡ 0) (p : ℕ) (ep : p ≡ polygonCount s) where
-    answer-ten : (b : Bool) → Short p (length faces) (length numbers) ≡ b → cond b 10 0 ≡ samplesRefusal s (length words) (length reals) (length faces) (length numbers)
+    answer-short : (b : Bool) → Short p (length faces) (length numbers) ≡ b → cond b tooLittleScratch 0 ≡ samplesRefusal s (length words) (length reals) (length faces) (length numbers)
     unfolding samplesRefusal
-    answer-ten b t = earlier-none _ _ b (sym e ∙ z) (rw (← ep, t))
+    answer-short b t = earlier-none _ _ b (sym e ∙ z) (rw (← ep, t))
 
-    pub samples-short : Short p (length faces) (length numbers) ≡ true → SamplesListed s words words reals reals faces faces numbers numbers 10
-    samples-short t = unchanged 10 (λ q. omega (arith, q)) (answer-ten true t)
+    pub samples-short : Short p (length faces) (length numbers) ≡ true → SamplesListed s words words reals reals faces faces numbers numbers tooLittleScratch
+    samples-short t = unchanged tooLittleScratch (λ q. omega (arith, q)) (answer-short true t)
 
     pub samples-listed : Short p (length faces) (length numbers) ≡ false → (words′ : List ℕ) (reals′ : List Float) (faces′ : List ℕ) (numbers′ : List Float) →
         ReadingsPut s words words′ reals reals′ → SampleList (partOf s) faces faces′ numbers numbers′ → SamplesListed s words words′ reals reals′ faces faces′ numbers numbers′ 0
-    samples-listed t words′ reals′ faces′ numbers′ h l = record { answer = answer-ten false t; refused = λ other. absurd (other refl); scratch = λ _. h; lists = λ _. l }
+    samples-listed t words′ reals′ faces′ numbers′ h l = record { answer = answer-short false t; refused = λ other. absurd (other refl); scratch = λ _. h; lists = λ _. l }

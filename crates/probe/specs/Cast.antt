@@ -7,7 +7,7 @@ use lib.Dec.{ltb}
 use lib.ListN.{length}
 use lib.Ieee.{Float, nan}
 use Rattle.file_part.specs.Part.{Part, partOf}
-use Rattle.file_ok.specs.Verdict.{orTen}
+use Rattle.file_ok.specs.Verdict.{orTooLittle}
 use Rattle.scratch.specs.Refusal.{bodyRefusal}
 use Rattle.wall_ray.specs.Nearest.{hitOf, polygonOr, timeOrZero}
 use Rattle.probe.specs.Scratch.{BodyPut}
@@ -20,7 +20,7 @@ pub record Cast (t : Part) (rays : List Float) (n : ℕ) (polygons polygons′ :
 
 -- "1 to 10 .. change no buffer", 10 also where a ray has no cell in one of the two; else the scratch holds the body, and every ray is cast
 pub record RaysCast (s words words′ : List ℕ) (reals reals′ rays : List Float) (polygons polygons′ : List ℕ) (times times′ : List Float) (r : ℕ) : Type 0 where
-  pub answer : r ≡ orTen (bodyRefusal s (length words) (length reals)) (ltb (length polygons) (raysIn (length rays)) || ltb (length times) (raysIn (length rays)))
+  pub answer : r ≡ orTooLittle (bodyRefusal s (length words) (length reals)) (ltb (length polygons) (raysIn (length rays)) || ltb (length times) (raysIn (length rays)))
   pub refused : (r ≡ 0 → ⊥) → (words′ ≡ words) × (reals′ ≡ reals) × (polygons′ ≡ polygons) × (times′ ≡ times)
   pub body : r ≡ 0 → BodyPut s words words′ reals reals′
   pub cast : r ≡ 0 → Cast (partOf s) rays (raysIn (length rays)) polygons polygons′ times times′

@@ -7,7 +7,7 @@ use lib.Dec.{ltb}
 use lib.ListN.{length}
 use lib.Ieee.{Float}
 use Rattle.file_part.specs.Part.{Part, partOf}
-use Rattle.file_ok.specs.Verdict.{orTen}
+use Rattle.file_ok.specs.Verdict.{orTooLittle}
 use Rattle.scratch.specs.Refusal.{bodyRefusal}
 use Rattle.wall_ray.specs.declared.strike.Ray.{Ray}
 use Rattle.wall_ray.specs.Nearest.{isOpen}
@@ -24,7 +24,7 @@ Open t rays n cells cells′ = Answered 0 (λ k. openNumber t (rayAt rays k)) n 
 
 -- "1 to 10 .. change no buffer", 10 also where a ray has no cell; else the scratch holds the body, and every ray is looked at
 pub record RaysOpen (s words words′ : List ℕ) (reals reals′ rays : List Float) (cells cells′ : List ℕ) (r : ℕ) : Type 0 where
-  pub answer : r ≡ orTen (bodyRefusal s (length words) (length reals)) (ltb (length cells) (raysIn (length rays)))
+  pub answer : r ≡ orTooLittle (bodyRefusal s (length words) (length reals)) (ltb (length cells) (raysIn (length rays)))
   pub refused : (r ≡ 0 → ⊥) → (words′ ≡ words) × (reals′ ≡ reals) × (cells′ ≡ cells)
   pub body : r ≡ 0 → BodyPut s words words′ reals reals′
   pub opened : r ≡ 0 → Open (partOf s) rays (raysIn (length rays)) cells cells′

@@ -9,7 +9,7 @@ use lib.Ieee.{Float, nan}
 use Rattle.list_laws.specs.Region.{part, Outside}
 use Rattle.file_part.specs.Layout.{polygonCount}
 use Rattle.file_part.specs.Part.{Part, partOf}
-use Rattle.file_ok.specs.Verdict.{orTen}
+use Rattle.file_ok.specs.Verdict.{orTooLittle}
 use Rattle.scratch.specs.Refusal.{bodyRefusal}
 use Rattle.wall_samples.specs.declared.sample.Sample.{Sample}
 use Rattle.wall_samples.specs.Samples.{readingsOf, sampleOf}
@@ -41,7 +41,7 @@ pub record SampleList (t : Part) (faces faces′ : List ℕ) (numbers numbers′
 -- ---- the answer
 -- the body's refusals, then 10 for lists of fewer cells than so many polygons can need
 unfoldable pub samplesRefusal : List ℕ → ℕ → ℕ → ℕ → ℕ → ℕ
-samplesRefusal s words reals faces numbers = orTen (bodyRefusal s words reals) (ltb faces (2 * polygonCount s + 1) || ltb numbers (8 * polygonCount s))
+samplesRefusal s words reals faces numbers = orTooLittle (bodyRefusal s words reals) (ltb faces (2 * polygonCount s + 1) || ltb numbers (8 * polygonCount s))
 
 -- "1 to 10 .. change no buffer"; else the scratch holds the body and the readings, and the lists hold the readings
 pub record SamplesListed (s words words′ : List ℕ) (reals reals′ : List Float) (faces faces′ : List ℕ) (numbers numbers′ : List Float) (r : ℕ) : Type 0 where

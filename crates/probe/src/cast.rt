@@ -1,10 +1,12 @@
 // What each of many rays strikes first.
 ghost use Rattle.probe.specs.Cast.{RaysCast};
 use crate::rays::ray_at;
+use refusal::ACCEPTED;
+use refusal::TOO_LITTLE_SCRATCH;
 use scratch::body::put_body;
-use scratch::refusal::body_refusal;
 use scratch::regions::Regions;
 use scratch::regions::Stages;
+use scratch::verdict::body_refusal;
 use wall_tree::raycast::raycast;
 
 // Puts the body of a part into the lent scratch, and for each ray the polygon that it strikes and how far along, and answers 0; or answers the
@@ -22,12 +24,12 @@ pub extern "C" fn gablemadder_raycast(
         (now (polygons .entry)) (now (polygons .exit)) (now (times .entry)) (now (times .exit)) r ⌝ }
 {
     let refusal = body_refusal(file, words.len(), reals.len());
-    if refusal != 0 {
+    if refusal != ACCEPTED {
         return refusal;
     }
     let n = rays.len() / 6;
     if (polygons.len() < n) | (times.len() < n) {
-        return 10;
+        return TOO_LITTLE_SCRATCH;
     }
     let at = Regions::of(
         file,
@@ -44,5 +46,5 @@ pub extern "C" fn gablemadder_raycast(
         times[k] = hit.time_or_zero();
         k += 1;
     }
-    0
+    ACCEPTED
 }

@@ -1,10 +1,12 @@
 // Whether each of many lines leaves a part without striking it (dfm.rs's `open_towards`).
 ghost use Rattle.probe.specs.Open.{RaysOpen};
 use crate::rays::ray_at;
+use refusal::ACCEPTED;
+use refusal::TOO_LITTLE_SCRATCH;
 use scratch::body::put_body;
-use scratch::refusal::body_refusal;
 use scratch::regions::Regions;
 use scratch::regions::Stages;
+use scratch::verdict::body_refusal;
 use wall_tree::raycast::open_towards;
 
 // Puts the body of a part into the lent scratch, and for each ray 1 where the line from its origin along its direction leaves the part, else 0, and
@@ -21,12 +23,12 @@ pub extern "C" fn gablemadder_open_towards(
         (now (cells .entry)) (now (cells .exit)) r ⌝ }
 {
     let refusal = body_refusal(file, words.len(), reals.len());
-    if refusal != 0 {
+    if refusal != ACCEPTED {
         return refusal;
     }
     let n = rays.len() / 6;
     if cells.len() < n {
-        return 10;
+        return TOO_LITTLE_SCRATCH;
     }
     let at = Regions::of(
         file,
@@ -42,5 +44,5 @@ pub extern "C" fn gablemadder_open_towards(
         cells[k] = open_towards(file, words, reals, at, ray.origin, ray.dir) as u32;
         k += 1;
     }
-    0
+    ACCEPTED
 }

@@ -4,10 +4,12 @@ ghost use lib.ListN.{length};
 ghost use lib.Ieee.{nan};
 ghost use Rattle.probe.specs.SampleList.{faceCells, numberCells, SamplesListed};
 ghost use Rattle.probe.specs.Work.{Row};
+use refusal::ACCEPTED;
+use refusal::TOO_LITTLE_SCRATCH;
 use scratch::body::put_body;
-use scratch::refusal::body_refusal;
 use scratch::regions::Regions;
 use scratch::regions::Stages;
+use scratch::verdict::body_refusal;
 use wall_samples::sample::Sample;
 use wall_samples::sample::sample_at;
 use wall_samples::store::put_samples;
@@ -46,7 +48,7 @@ pub extern "C" fn gablemadder_sample_list(
         (now (faces .entry)) (now (faces .exit)) (now (numbers .entry)) (now (numbers .exit)) r ⌝ }
 {
     let refusal = body_refusal(file, words.len(), reals.len());
-    if refusal != 0 {
+    if refusal != ACCEPTED {
         return refusal;
     }
     let at = Regions::of(
@@ -58,7 +60,7 @@ pub extern "C" fn gablemadder_sample_list(
     );
     let most = at.polygons;
     if (faces.len() < 2 * most + 1) | (numbers.len() < 8 * most) {
-        return 10;
+        return TOO_LITTLE_SCRATCH;
     }
     let count = put_body(file, words, reals, at);
     let n = put_samples(file, words, reals, at, count);
@@ -68,5 +70,5 @@ pub extern "C" fn gablemadder_sample_list(
         k += 1;
     }
     faces[0] = n as u32;
-    0
+    ACCEPTED
 }

@@ -4,7 +4,8 @@ ghost use Prim.Native.Nat.{_≤_};
 use dfm_core::answer::Answer;
 use dfm_own::check_own;
 use dfm_own::check_rowless;
-use dfm_print::print_answer;
+use dfm_print::print_first;
+use dfm_print::put_answer;
 use file_field::read::u32_at;
 use libc::STDIN_FILENO;
 use libc::STDOUT_FILENO;
@@ -65,7 +66,8 @@ fn answer(file: &[u8], words: &mut [u32], reals: &mut [f64], report: &mut [u8], 
         lent.rows,
         &mut report[..b],
     );
-    print_answer(answer, report);
+    let count = put_answer(report, answer);
+    print_first(report, count);
 }
 
 // Checks a file, and prints the answer.

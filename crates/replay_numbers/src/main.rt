@@ -3,6 +3,7 @@
 ghost use Prim.Native.Nat.{_<_};
 use libc::STDIN_FILENO;
 use libc::STDOUT_FILENO;
+use refusal::NO_DECIMAL;
 
 // The value of a lower-case hexadecimal digit; 0 for any other byte.
 fn digit(c: u8) -> u64
@@ -33,7 +34,8 @@ fn put_places(out: &mut [u8], at: usize, x: f64, places: u32) -> usize {
     if start < end {
         return end;
     }
-    num_text::put::put_bytes(out, start, b"refused 13")
+    let told = num_text::put::put_bytes(out, start, b"refused ");
+    num_text::number::put_number(out, told, NO_DECIMAL as u64)
 }
 
 fn put_line(out: &mut [u8], b: u64) -> usize {

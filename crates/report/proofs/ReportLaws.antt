@@ -18,23 +18,23 @@ use Rattle.fault_lines.proofs.Found.{listed}
 use Rattle.report.specs.declared.report.Written.{Written}
 use Rattle.report.specs.declared.report.Written.the-variants.{Bytes, TooLong}
 use Rattle.report.specs.Text.{reportText}
-use Rattle.report.specs.Report.{fits, Reported}
+use Rattle.report.specs.Report.{numberOf, lengthOf, fits, Reported}
 
 -- ---- the text was measured over some slice, and k is the position then
 module _ (text d e : List ℕ) (k : ℕ) (measured : Put d 0 text e k) (report : List ℕ) where
   -- a position that stopped at 2 ^ 63 is past every slice, as the text is
   pub reported-long : length report < k → Reported text report report TooLong
-  unfolding fits
+  unfolding fits numberOf lengthOf
   reported-long h =
       let off : fits text report ≡ false = lt-leb (length text) (length report) (omega (arith, h, put-le text measured)) in
-      record { answer = rw off; buffer = rw off }
+      record { answer = rw off; number = rw off; size = rw off; buffer = rw off }
 
   pub reported-fits : (report′ : List ℕ) (r : ℕ) → k ≤ length report → Put report 0 text report′ r → Reported text report report′ (Bytes k)
-  unfolding fits
+  unfolding fits numberOf lengthOf
   reported-fits report′ r h put =
       let long : k ≡ length text = put-counted text measured (omega (arith, h, put .room)) ∙ omega arith in
       let on : fits text report ≡ true = le-leb (length text) (length report) (omega (arith, h, long)) in
-      record { answer = rw on (ap Bytes long); buffer = rw on (put-front text put (omega (arith, h, long))) }
+      record { answer = rw on (ap Bytes long); number = rw on; size = rw on long; buffer = rw on (put-front text put (omega (arith, h, long))) }
 
 -- ---- the contract leaves nothing open
 -- two outcomes of one call are one

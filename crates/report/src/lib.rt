@@ -2,4 +2,5 @@
 mod head;
 mod line;
 mod name;
+mod order;
 pub mod report;

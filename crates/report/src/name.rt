@@ -1,24 +1,18 @@
 // The names of severities and rules.
-ghost use Prim.Native.Nat.{_<_};
 ghost use Rattle.num_text.specs.Put.{Put};
-ghost use Rattle.fault_row.specs.Names.{severityOf, severityName, ruleName};
+ghost use Rattle.fault_row.specs.Names.{severityName, ruleName};
 use fault_row::fault::Rule;
-use fault_row::row::ERROR;
-use fault_row::row::WARNING;
+use fault_row::fault::Severity;
 use num_text::put::put_bytes;
 
-// The severity of a row, by its rank.
-pub(crate) fn put_severity(out: &mut [u8], at: usize, severity: u32) -> usize
-    requires { ⌜ severity < 3 ⌝ }
-    ensures { λ r. ⌜ Put (now (out .entry)) at (severityName (severityOf severity)) (now (out .exit)) r ⌝ }
+pub(crate) fn put_severity(out: &mut [u8], at: usize, severity: Severity) -> usize
+    ensures { λ r. ⌜ Put (now (out .entry)) at (severityName severity) (now (out .exit)) r ⌝ }
 {
-    if severity == ERROR {
-        return put_bytes(out, at, b"Error");
+    match severity {
+        Severity::Error => put_bytes(out, at, b"Error"),
+        Severity::Warning => put_bytes(out, at, b"Warning"),
+        Severity::Note => put_bytes(out, at, b"Note"),
     }
-    if severity == WARNING {
-        return put_bytes(out, at, b"Warning");
-    }
-    put_bytes(out, at, b"Note")
 }
 
 pub(crate) fn put_rule(out: &mut [u8], at: usize, rule: Rule) -> usize

@@ -4,9 +4,9 @@
 -- SearchLaws   the next wanted place of a row of cells
 -- LinkLaws     the polygons of each body as a chain
 -- MarkLaws     marks, one face after another
--- CellLaws     the marks of a row and of a line, by the cells of the scratch
+-- CellLaws     the marks of what a flaw names and of a line, by the cells of the scratch
 -- IdsLaws      the ids of the faces that pass a test, by rank
--- NameLaws     the faces that a row names, by the cells and by the part
+-- NameLaws     the faces that a flaw names, by the cells and by the part
 -- LineLaws     the faces of a line
 pub mod TextLaws
 pub mod SomeLaws

@@ -3,9 +3,8 @@ pub mod Search
 use mathlib.Core.Path.{_≡_}
 use mathlib.Core.Bool.{true, Bool, _&&_, _||_, cond, false}
 use mathlib.Core.List.{List, [], _∷_, _++_}
-use mathlib.Core.Logic.{_⊎_}
 use Prim.Native.Nat.{ℕ, _+_, _≤_, _<_, zero, suc, _-_, _*_}
-use lib.Dec.{eqb, ltb}
+use lib.Dec.{eqb}
 use lib.ListN.{length, getD}
 use lib.Ieee.{Float}
 use Rattle.list_laws.specs.Region.{part}
@@ -21,15 +20,14 @@ use Rattle.solid_ranks.specs.Kept.{Ranked}
 use Rattle.sheet_thickness.specs.Kept.{OffFaces}
 use Rattle.print_overhang.specs.Overhang.{leanOf}
 use Rattle.print_overhang.specs.Kept.{Marks}
-use Rattle.fault_row.specs.declared.row.FaultRow.{FaultRow}
-use Rattle.fault_row.specs.Row.{rowAt}
-use Rattle.fault_text.specs.Kind.{notOneThickness, overhang, enclosedHollowSla, enclosedHollowSls}
-use Rattle.fault_text.specs.Meaning.{isOfTwo, isOfOne}
 use Rattle.fault_merge.specs.Rows.{Rows}
 use Rattle.fault_merge.specs.Merged.{Merged}
 use Rattle.report_faces.specs.declared.marks.Listing.{Listing}
+use Rattle.report_faces.specs.declared.named.Named.{Named}
+use Rattle.report_faces.specs.declared.named.Named.the-variants.{NoFace, One, Two, Off, Hanging, Body}
 use Rattle.report_faces.specs.Text.{idText}
 use Rattle.report_faces.specs.Work.Search.{Next}
+use Rattle.report_faces.specs.Named.{namedAt}
 
 -- ---- the polygons of each body as a chain: at each polygon stands the next of its body
 -- no label is higher than its polygon: a body goes by its lowest
@@ -95,23 +93,18 @@ unfoldable pub markedIds : Part → List ℕ → ℕ → List FaceId
 markedIds t marks zero = []
 markedIds t marks (suc r) = markedIds t marks r ++ cond (eqb (getD marks r 0) 0) [] (idOf t (getD marks r 0 - 1) ∷ [])
 
--- ---- which faces a fault row names, by the cells of the scratch; what a fault's faces are, fault_text's Meaning says
--- the kinds whose faces are found from the part
-unfoldable pub isMany : ℕ → Bool
-isMany kind = eqb kind notOneThickness || (eqb kind overhang || (eqb kind enclosedHollowSla || eqb kind enclosedHollowSls))
-
--- the faces that a row names itself
-unfoldable pub ownFaces : Part → FaultRow → List FaceId
-ownFaces t row =
-    cond (isOfTwo (row .kind)) (idOf t (row .a) ∷ idOf t (row .b) ∷ []) (cond (isOfOne (row .kind)) (idOf t (row .a) ∷ []) [])
-
--- faces that a row names are there
-pub record Fits (m : ℕ) (row : FaultRow) : Type 0 where
-  pub a-there : row .kind < enclosedHollowSla → row .a < m
-  pub b-there : row .b < m
+-- ---- which faces a flaw names, by the cells of the scratch
+-- faces that it names itself are there
+unfoldable pub Fits : ℕ → Named → Type 0
+Fits m NoFace = Unit {0}
+Fits m (One f) = f < m
+Fits m (Two f g) = (f < m) × (g < m)
+Fits m Off = Unit {0}
+Fits m Hanging = Unit {0}
+Fits m (Body p) = Unit {0}
 
 unfoldable pub FitsEach : ℕ → List ℕ → List Float → ℕ → Type 0
-FitsEach m cells numbers n = (6 * n ≤ length cells) × (3 * n ≤ length numbers) × ((k : ℕ) → k < n → Fits m (rowAt cells numbers k))
+FitsEach m cells numbers n = (6 * n ≤ length cells) × (3 * n ≤ length numbers) × ((k : ℕ) → k < n → Fits m (namedAt cells numbers k))
 
 -- the cells of a part of m faces: their ranks, and the face of each polygon
 pub record Cells (at : Regions) (m : ℕ) (words : List ℕ) : Type 0 where
@@ -121,31 +114,39 @@ pub record Cells (at : Regions) (m : ℕ) (words : List ℕ) : Type 0 where
   pub ranks : Ranks (part (at .ranks) (at .ranks + m) words)
   pub faces : (p : ℕ) → p < at .polygons → getD words (at .faces + p) 0 < m
 
--- face f, of a row whose faces are many: by its flag, or by the bodies of its polygons
-unfoldable pub namesMany : List ℕ → Regions → FaultRow → ℕ → Bool
-namesMany words at row f =
-    cond (ltb (row .kind) enclosedHollowSla) (eqb (getD words (at .order + f) 0) 1)
-    (someBelow (at .polygons) (λ p. eqb (getD words (at .faces + p) 0) f && eqb (getD words p 0) (row .a)))
+-- face f has the flag that its rule left
+unfoldable pub hasFlag : List ℕ → Regions → ℕ → Bool
+hasFlag words at f = eqb (getD words (at .order + f) 0) 1
 
-unfoldable pub namesIn : List ℕ → Regions → FaultRow → ℕ → Bool
-namesIn words at row f =
-    cond (isOfTwo (row .kind)) (isEither (row .a) (row .b) f)
-    (cond (isOfOne (row .kind)) (isSame (row .a) f) (cond (isMany (row .kind)) (namesMany words at row f) false))
+-- face f has a polygon of the body that goes by b
+unfoldable pub isInBody : List ℕ → Regions → ℕ → ℕ → Bool
+isInBody words at b f = someBelow (at .polygons) (λ p. eqb (getD words (at .faces + p) 0) f && eqb (getD words p 0) b)
+
+unfoldable pub namesIn : List ℕ → Regions → Named → ℕ → Bool
+namesIn words at NoFace f = false
+namesIn words at (One a) f = isSame a f
+namesIn words at (Two a b) f = isEither a b f
+namesIn words at Off f = hasFlag words at f
+namesIn words at Hanging f = hasFlag words at f
+namesIn words at (Body p) f = isInBody words at p f
 
 -- fault j is on the line of fault i and names face f
 unfoldable pub isNamed : List ℕ → List ℕ → Regions → List ℕ → List Float → ℕ → ℕ → ℕ → Bool
-isNamed work words at cells numbers i j f = eqb (getD work (4 * j + 1) 0) i && namesIn words at (rowAt cells numbers j) f
+isNamed work words at cells numbers i j f = eqb (getD work (4 * j + 1) 0) i && namesIn words at (namedAt cells numbers j) f
 
 -- some fault below n is, and does
 unfoldable pub isNamedBelow : List ℕ → List ℕ → Regions → List ℕ → List Float → ℕ → ℕ → ℕ → Bool
 isNamedBelow work words at cells numbers i n f = someBelow n (λ j. isNamed work words at cells numbers i j f)
 
 -- ---- what printing the faces of a line starts from
--- the scratch tells the faces of a row that has many: the marks that its rule left, or the bodies
-pub record Told (t : Part) (at : Regions) (words : List ℕ) (row : FaultRow) : Type 0 where
-  pub off : row .kind ≡ notOneThickness → OffFaces t at words
-  pub over : row .kind ≡ overhang → Marks t (leanOf t) at words
-  pub hollow : (row .kind ≡ enclosedHollowSla) ⊎ (row .kind ≡ enclosedHollowSls) → at .bodies ≡ true
+-- the scratch tells the faces that are found from the part: the flags that the rule left, or the bodies
+unfoldable pub Told : Part → Regions → List ℕ → Named → Type 0
+Told t at words NoFace = Unit {0}
+Told t at words (One f) = Unit {0}
+Told t at words (Two f g) = Unit {0}
+Told t at words Off = OffFaces t at words
+Told t at words Hanging = Marks t (leanOf t) at words
+Told t at words (Body p) = at .bodies ≡ true
 
 -- the body of a part with the ranks of its faces, its faults as rows, and what the scratch tells of their faces
 pub record Kept (s words : List ℕ) (given : Listing) (cells : List ℕ) (numbers : List Float) : Type 0 where
@@ -155,7 +156,7 @@ pub record Kept (s words : List ℕ) (given : Listing) (cells : List ℕ) (numbe
   pub ranked : Ranked (partOf s) (given .at) words
   pub faces : given .faces ≡ facesOf (partOf s)
   pub rows : Rows s cells numbers (given .faults)
-  pub told : (k : ℕ) → k < given .faults → Told (partOf s) (given .at) words (rowAt cells numbers k)
+  pub told : (k : ℕ) → k < given .faults → Told (partOf s) (given .at) words (namedAt cells numbers k)
 
 -- and which faults share a line; after their cells the links of the bodies' polygons
 pub record Ready (s words : List ℕ) (given : Listing) (work cells : List ℕ) (numbers : List Float) : Type 0 where

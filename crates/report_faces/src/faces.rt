@@ -14,9 +14,9 @@ ghost use Rattle.report_faces.specs.Work.{Ready};
 use crate::ids::put_marked;
 use crate::ids::put_own;
 use crate::marks::Listing;
-use crate::marks::is_many;
 use crate::marks::mark_line;
-use fault_row::row::row_at;
+use crate::named::is_many;
+use crate::named::named_at;
 
 // The faces of the line that fault i begins.
 pub fn put_faces(
@@ -38,9 +38,9 @@ pub fn put_faces(
     let regions = given.at;
     let faces = regions.faces;
     let end = regions.readings;
-    let row = row_at(cells, numbers, i);
-    if (work[4 * i + 3] == 1) & !is_many(row.kind) {
-        return put_own(out, at, file, &words[faces..end], row);
+    let named = named_at(cells, numbers, i);
+    if (work[4 * i + 3] == 1) & !is_many(named) {
+        return put_own(out, at, file, &words[faces..end], named);
     }
     mark_line(marks, words, given, work, cells, numbers, i);
     put_marked(out, at, file, &words[faces..end], marks, given.faces)

@@ -3,4 +3,5 @@ pub mod faces;
 mod ids;
 pub mod links;
 pub mod marks;
+pub mod named;
 mod search;

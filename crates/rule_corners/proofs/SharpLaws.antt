@@ -1,5 +1,5 @@
 -- The rule: whether corners are reached, the fault of two faces, and the walk over all of them.
-use mathlib.Core.Path.{_≡_, refl, sym, ap, _∙_, subst}
+use mathlib.Core.Path.{_≡_, refl, sym, ap, ap₂, _∙_, subst}
 use mathlib.Core.Bool.{Bool, true, false, _||_, cond}
 use mathlib.Core.List.{List, [], _∷_, _++_, List·Memᴰ}
 use Prim.Native.Nat.{ℕ, _≤_, _<_}
@@ -13,14 +13,13 @@ use Rattle.math.specs.Vector.{zero, plus, times}
 use Rattle.file_part.specs.Part.{Part, partOf}
 use Rattle.scratch.specs.declared.regions.Regions.{Regions}
 use Rattle.wall_ray.specs.Nearest.{isOpen}
-use Rattle.fault_row.specs.Fault.{Fault}
-use Rattle.fault_row.specs.Row.{row, RowPut}
-use Rattle.fault_row.specs.Faults.{FaultsPut}
-use Rattle.fault_row.proofs.FaultLaws.{faults-none, faults-one, faults-same, faults-then}
-use Rattle.fault_text.specs.Kind.{sharpInsideCorner}
-use Rattle.fault_text.specs.Machining.{sharpInsideCornerFault}
-use Rattle.fault_text.specs.Meaning.{faultOf, GoodRow}
-use Rattle.fault_text.proofs.MeaningLaws.{sharp-inside-corner-row, sharp-inside-corner-printed, good-row}
+use Rattle.fault_row.specs.declared.flaw.Flaw.{Flaw}
+use Rattle.fault_row.specs.declared.flaw.Flaw.the-variants.{SharpInsideCorner}
+use Rattle.fault_row.specs.Row.{RowPut}
+use Rattle.fault_row.specs.Flaw.{rowOf}
+use Rattle.fault_row.specs.Flaws.{FlawsPut}
+use Rattle.fault_row.proofs.FlawLaws.{flaws-none, flaws-one, flaws-same, flaws-then}
+use Rattle.fault_text.specs.Good.{Good}
 use Rattle.rule_corners.specs.declared.corner.Corner.{Corner}
 use Rattle.rule_corners.specs.declared.corner.NextCorner.{NextCorner}
 use Rattle.rule_corners.specs.declared.sharp.Group.{Group}
@@ -54,15 +53,15 @@ module _ (s : List ℕ) (words : List ℕ) (reals : List Float) (g : Group) (o :
   abbrev items : List ℕ
   items = part (g .from) (g .end) (cornerOrder (g .at) words)
 
-  abbrev faults : List Fault
-  faults = sharpCorner t (g .first) (g .second) (cornerOf t items)
+  abbrev flaws : List Flaw
+  flaws = sharpCorner t (g .first) (g .second) (cornerOf t items)
 
-  chosen : (v : Bool) → b ≡ v → cond v [] (sharpInsideCornerFault t (g .first) (g .second) (cornerOf t items .length) (filletOf (cornerOf t items .length)) ∷ []) ≡ faults
+  chosen : (v : Bool) → b ≡ v → cond v [] (SharpInsideCorner (g .first) (g .second) (cornerOf t items .length) (filletOf (cornerOf t items .length)) ∷ []) ≡ flaws
   unfolding sharpCorner
-  chosen v e = ap (λ (x : Bool). cond x [] (sharpInsideCornerFault t (g .first) (g .second) (cornerOf t items .length) (filletOf (cornerOf t items .length)) ∷ [])) (sym e ∙ eb ∙ ap (isReached t) ec)
+  chosen v e = ap (λ (x : Bool). cond x [] (SharpInsideCorner (g .first) (g .second) (cornerOf t items .length) (filletOf (cornerOf t items .length)) ∷ [])) (sym e ∙ eb ∙ ap (isReached t) ec)
 
-  pub sharp-none : (cells : List ℕ) (numbers : List Float) → b ≡ true → FaultsPut (faultOf t) (GoodRow t) (g .before) faults cells cells numbers numbers (g .before)
-  sharp-none cells numbers e = faults-same (chosen true e) (faults-none (g .before) cells numbers)
+  pub sharp-none : (cells : List ℕ) (numbers : List Float) → b ≡ true → FlawsPut (Good t) (g .before) flaws cells cells numbers numbers (g .before)
+  sharp-none cells numbers e = flaws-same (chosen true e) (flaws-none (g .before) cells numbers)
 
   length-of : (l : List ℕ) → cornerOf t l .length ≡ lengthFrom t zero l
   unfolding cornerOf lengthFrom
@@ -80,15 +79,13 @@ module _ (s : List ℕ) (words : List ℕ) (reals : List Float) (g : Group) (o :
       )
 
   pub sharp-one : (y : Float) (r : ℕ) (cells cells′ : List ℕ) (numbers numbers′ : List Float) → b ≡ false → y ≡ filletOf (c .length) →
-      RowPut (g .before) (row sharpInsideCorner 1 1 (g .first) (g .second) 0 (c .length) y zero) cells cells′ numbers numbers′ r →
-      FaultsPut (faultOf t) (GoodRow t) (g .before) faults cells cells′ numbers numbers′ r
+      RowPut (g .before) (rowOf (SharpInsideCorner (g .first) (g .second) (c .length) y)) cells cells′ numbers numbers′ r →
+      FlawsPut (Good t) (g .before) flaws cells cells′ numbers numbers′ r
+  unfolding Good
   sharp-one y r cells cells′ numbers numbers′ e ey put =
-      faults-same one
-      (faults-one (sharpInsideCornerFault t (g .first) (g .second) x z) (subst (λ (w : Float). RowPut (g .before) (row sharpInsideCorner 1 1 (g .first) (g .second) 0 w z zero) cells cells′ numbers numbers′ r) size
-      (subst (λ (w : Float). RowPut (g .before) (row sharpInsideCorner 1 1 (g .first) (g .second) 0 (c .length) w zero) cells cells′ numbers numbers′ r) (ey ∙ ap filletOf size) put))
-      (sharp-inside-corner-row t (g .first) (g .second) x z)
-      (good-row t sharpInsideCorner 1 (g .first) (g .second) x z zero (omega arith) (omega arith) (omega arith) (there .first-below) (there .second-below)
-      (sharp-inside-corner-printed t (g .first) (g .second) x z (length-accepted s (o .standing .placed .checked) items inside few) (fillet-accepted s (o .standing .placed .checked) items inside few))))
+      flaws-same one
+      (flaws-one (SharpInsideCorner (g .first) (g .second) x z) (subst (λ (f : Flaw). RowPut (g .before) (rowOf f) cells cells′ numbers numbers′ r) found put)
+      (there .first-below, there .second-below, length-accepted s (o .standing .placed .checked) items inside few, fillet-accepted s (o .standing .placed .checked) items inside few))
     where
       x : Float
       x = lengthFrom t zero items
@@ -99,29 +96,32 @@ module _ (s : List ℕ) (words : List ℕ) (reals : List Float) (g : Group) (o :
       size : c .length ≡ x
       size = ap (λ (k : Corner). k .length) ec ∙ length-of items
 
+      found : SharpInsideCorner (g .first) (g .second) (c .length) y ≡ SharpInsideCorner (g .first) (g .second) x z
+      found = ap₂ (SharpInsideCorner (g .first) (g .second)) size (ey ∙ ap filletOf size)
+
       inside : (k : ℕ) → List·Memᴰ k items → k < cornerCount t
       inside = corners-below s (g .at) words reals o (g .from) (g .end) (there .inside)
 
-      one : sharpInsideCornerFault t (g .first) (g .second) x z ∷ [] ≡ faults
+      one : SharpInsideCorner (g .first) (g .second) x z ∷ [] ≡ flaws
       one =
-          ap (λ (w : Float). sharpInsideCornerFault t (g .first) (g .second) w (filletOf w) ∷ []) (sym (length-of items)) ∙ chosen false e
+          ap (λ (w : Float). SharpInsideCorner (g .first) (g .second) w (filletOf w) ∷ []) (sym (length-of items)) ∙ chosen false e
 
 -- ---- the walk
 pub sharp-start : (t : Part) (from : ℕ) (cells : List ℕ) (numbers : List Float) → SharpTo t 0 from from cells cells numbers numbers
-sharp-start t from cells numbers = record { out = []; met = corners-start t _; put = faults-none from cells numbers }
+sharp-start t from cells numbers = record { out = []; met = corners-start t _; put = flaws-none from cells numbers }
 
 pub sharp-more : (s : List ℕ) (at : Regions) (words : List ℕ) (reals : List Float) → CornersOrdered s at words reals → (i from k r : ℕ) (next : NextCorner) (c0 c1 c2 : List ℕ) (n0 n1 n2 : List Float) →
     NextCornerIs (partOf s) at words reals i next → SharpTo (partOf s) i from k c0 c1 n0 n1 →
-    FaultsPut (faultOf (partOf s)) (GoodRow (partOf s)) k (sharpCorner (partOf s) (next .first) (next .second) (cornerOf (partOf s) (part i (next .end) (cornerOrder at words)))) c1 c2 n1 n2 r →
+    FlawsPut (Good (partOf s)) k (sharpCorner (partOf s) (next .first) (next .second) (cornerOf (partOf s) (part i (next .end) (cornerOrder at words)))) c1 c2 n1 n2 r →
     SharpTo (partOf s) (next .end) from r c0 c2 n0 n2
 sharp-more s at words reals o i from k r next c0 c1 c2 n0 n1 n2 is so put =
     record {
       out = so .out ++ sharpCorner (partOf s) (next .first) (next .second) (cornerOf (partOf s) (part i (next .end) (cornerOrder at words)));
       met = next-corner s at words reals o _ i next is (so .out) (so .met);
-      put = faults-then (so .put) put;
+      put = flaws-then (so .put) put;
     }
 
 pub sharp-end : (s : List ℕ) (at : Regions) (words : List ℕ) (reals : List Float) → CornersOrdered s at words reals → (i from k : ℕ) (c0 c1 : List ℕ) (n0 n1 : List Float) →
-    cornerCount (partOf s) ≤ i → SharpTo (partOf s) i from k c0 c1 n0 n1 → FaultsPut (faultOf (partOf s)) (GoodRow (partOf s)) from (sharpCorners (partOf s)) c0 c1 n0 n1 k
+    cornerCount (partOf s) ≤ i → SharpTo (partOf s) i from k c0 c1 n0 n1 → FlawsPut (Good (partOf s)) from (sharpCorners (partOf s)) c0 c1 n0 n1 k
 unfolding sharpCorners
-sharp-end s at words reals o i from k c0 c1 n0 n1 l so = faults-same (corners-end s at words reals o _ i (so .out) l (so .met)) (so .put)
+sharp-end s at words reals o i from k c0 c1 n0 n1 l so = flaws-same (corners-end s at words reals o _ i (so .out) l (so .met)) (so .put)

@@ -7,8 +7,9 @@ use Rattle.num_real.specs.Select.{maxOf}
 use Rattle.math.specs.Vector.{plus, times}
 use Rattle.file_part.specs.Part.{Part}
 use Rattle.wall_ray.specs.Nearest.{isOpen}
-use Rattle.fault_row.specs.Fault.{Fault}
-use Rattle.fault_text.specs.Machining.{minMillRadius, sharpInsideCornerFault}
+use Rattle.fault_row.specs.declared.flaw.Flaw.{Flaw}
+use Rattle.fault_row.specs.declared.flaw.Flaw.the-variants.{SharpInsideCorner}
+use Rattle.fault_text.specs.Machining.{minMillRadius}
 use Rattle.rule_corners.specs.declared.corner.Corner.{Corner}
 use Rattle.rule_corners.specs.Corners.{cornerOf, overCorners}
 
@@ -30,9 +31,9 @@ unfoldable pub filletOf : Float → Float
 filletOf length = maxOf minMillRadius (div binary64 length six)
 
 -- of the corners between faces f and g; none where a tool reaches them
-unfoldable pub sharpCorner : Part → ℕ → ℕ → Corner → List Fault
-sharpCorner t f g c = cond (isReached t c) [] (sharpInsideCornerFault t f g (c .length) (filletOf (c .length)) ∷ [])
+unfoldable pub sharpCorner : Part → ℕ → ℕ → Corner → List Flaw
+sharpCorner t f g c = cond (isReached t c) [] (SharpInsideCorner f g (c .length) (filletOf (c .length)) ∷ [])
 
 -- all of them, by rising ids
-unfoldable pub sharpCorners : Part → List Fault
+unfoldable pub sharpCorners : Part → List Flaw
 sharpCorners t = overCorners t (λ f g l. sharpCorner t f g (cornerOf t l))

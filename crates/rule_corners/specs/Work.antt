@@ -18,9 +18,9 @@ use Rattle.solid_ranks.specs.Kept.{Ranked}
 use Rattle.solid_ranks.specs.Ranks.{rankOf}
 use Rattle.solid_pairs.specs.Pairs.{lower, higher}
 use Rattle.solid_pairs.specs.Work.{PairsSorted, PairsTo}
-use Rattle.fault_row.specs.Fault.{Fault}
-use Rattle.fault_row.specs.Faults.{FaultsPut}
-use Rattle.fault_text.specs.Meaning.{faultOf, GoodRow}
+use Rattle.fault_row.specs.declared.flaw.Flaw.{Flaw}
+use Rattle.fault_row.specs.Flaws.{FlawsPut}
+use Rattle.fault_text.specs.Good.{Good}
 use Rattle.rule_corners.specs.declared.corner.Counts.{Counts}
 use Rattle.rule_corners.specs.declared.corner.NextCorner.{NextCorner}
 use Rattle.rule_corners.specs.declared.segment.Sides.{Sides}
@@ -135,6 +135,6 @@ pub record GroupThere (t : Part) (g : Group) : Type 0 where
 
 -- a walk at place i has met these faults, and they are put
 pub record SharpTo (t : Part) (i from k : ℕ) (cells cells′ : List ℕ) (numbers numbers′ : List Float) : Type 0 where
-  pub out : List Fault
+  pub out : List Flaw
   pub met : CornersMet t (λ f g l. sharpCorner t f g (cornerOf t l)) i out
-  pub put : FaultsPut (faultOf t) (GoodRow t) from out cells cells′ numbers numbers′ k
+  pub put : FlawsPut (Good t) from out cells cells′ numbers numbers′ k

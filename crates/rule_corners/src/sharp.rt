@@ -3,10 +3,9 @@ ghost use mathlib.Core.Path.{_≡_};
 ghost use Prim.Native.Nat.{_+_, _≤_, _<_};
 ghost use Rattle.list_laws.specs.Region.{part};
 ghost use Rattle.file_part.specs.Part.{partOf};
-ghost use Rattle.solid_faces.specs.Faces.{facesOf};
 ghost use Rattle.scratch.specs.Standing.{Standing};
-ghost use Rattle.fault_row.specs.Faults.{FaultsPut};
-ghost use Rattle.fault_text.specs.Meaning.{faultOf, GoodRow};
+ghost use Rattle.fault_row.specs.Flaws.{FlawsPut};
+ghost use Rattle.fault_text.specs.Good.{Good};
 ghost use Rattle.rule_corners.specs.Corners.{cornerOf};
 ghost use Rattle.rule_corners.specs.Work.{Counted, cornerOrder, CornersOrdered, GroupThere};
 ghost use Rattle.rule_corners.specs.Sharp.{isReached, filletOf, sharpCorner, sharpCorners};
@@ -14,10 +13,8 @@ use crate::corner::Corner;
 use crate::corner::Counts;
 use crate::corner::corner_of;
 use crate::corner::next_corner;
-use fault_row::row::FaultRow;
-use fault_row::row::WARNING;
-use fault_row::row::put_row;
-use fault_text::kind::SHARP_INSIDE_CORNER;
+use fault_row::flaw::Flaw;
+use fault_row::flaw::put_flaw;
 use fault_text::machining::MIN_MILL_RADIUS;
 use num_real::select::max;
 use scratch::regions::Regions;
@@ -64,7 +61,7 @@ fn put_sharp(
     group: Group,
 ) -> usize
     requires { ⌜ CornersOrdered (now file) (group .at) (now words) (now reals) ⌝ ∗ ⌜ GroupThere (partOf (now file)) group ⌝ }
-    ensures { λ r. ⌜ FaultsPut (faultOf (partOf (now (file .entry)))) (GoodRow (partOf (now (file .entry)))) (group .before) (sharpCorner (partOf (now (file .entry))) (group .first) (group .second) (cornerOf (partOf (now (file .entry))) (part (group .from) (group .end) (cornerOrder (group .at) (now (words .entry)))))) (now (cells .entry)) (now (cells .exit)) (now (numbers .entry)) (now (numbers .exit)) r ⌝ }
+    ensures { λ r. ⌜ FlawsPut (Good (partOf (now (file .entry)))) (group .before) (sharpCorner (partOf (now (file .entry))) (group .first) (group .second) (cornerOf (partOf (now (file .entry))) (part (group .from) (group .end) (cornerOrder (group .at) (now (words .entry)))))) (now (cells .entry)) (now (cells .exit)) (now (numbers .entry)) (now (numbers .exit)) r ⌝ }
     ensures { λ r. ⌜ r ≤ group .before + 1 ⌝ }
 {
     let at = group.at;
@@ -72,18 +69,13 @@ fn put_sharp(
     if is_reached(file, words, reals, at, c) {
         return group.before;
     }
-    let row = FaultRow {
-        kind: SHARP_INSIDE_CORNER,
-        severity: WARNING,
-        count: 1,
-        a: group.first as u32,
-        b: group.second as u32,
-        waived: 0,
-        x: c.length,
-        y: fillet_of(c.length),
-        z: 0.0,
-    };
-    put_row(cells, numbers, group.before, row)
+    let flaw = Flaw::SharpInsideCorner(
+        group.first as u32,
+        group.second as u32,
+        c.length,
+        fillet_of(c.length),
+    );
+    put_flaw(cells, numbers, group.before, flaw)
 }
 
 // What the rule is told: the regions, the counts, and how many faults come before.
@@ -103,7 +95,7 @@ pub fn put_sharp_corners(
     turn: Turn,
 ) -> usize
     requires { ⌜ CornersOrdered (now file) (turn .at) (now words) (now reals) ⌝ ∗ ⌜ Counted (partOf (now file)) (turn .counts) ⌝ ∗ ⌜ turn .before ≤ 65536 ⌝ }
-    ensures { λ r. ⌜ FaultsPut (faultOf (partOf (now (file .entry)))) (GoodRow (partOf (now (file .entry)))) (turn .before) (sharpCorners (partOf (now (file .entry)))) (now (cells .entry)) (now (cells .exit)) (now (numbers .entry)) (now (numbers .exit)) r ⌝ }
+    ensures { λ r. ⌜ FlawsPut (Good (partOf (now (file .entry)))) (turn .before) (sharpCorners (partOf (now (file .entry)))) (now (cells .entry)) (now (cells .exit)) (now (numbers .entry)) (now (numbers .exit)) r ⌝ }
     ensures { λ r. ⌜ r ≤ turn .before + turn .counts .corners ⌝ }
 {
     let at = turn.at;

@@ -18,8 +18,8 @@ use Rattle.solid_tours.specs.Tours.{overNeighbours}
 use Rattle.wall_ray.specs.Strike.{e-9}
 use Rattle.round_all.specs.Round.{roundOf}
 use Rattle.sheet_bends.specs.Bends.{outsideOf, isBend, isBendFace}
-use Rattle.fault_row.specs.Fault.{Fault}
-use Rattle.fault_text.specs.Sheet.{shortFlangeFault}
+use Rattle.fault_row.specs.declared.flaw.Flaw.{Flaw}
+use Rattle.fault_row.specs.declared.flaw.Flaw.the-variants.{ShortFlange}
 use Rattle.rule_flanges.specs.declared.legs.Leg.{Leg}
 
 -- the f64 0.1, 0.99 and 4.0
@@ -95,18 +95,18 @@ unfoldable pub minFlange : Float → Float
 minFlange thick = mul binary64 four thick
 
 -- `if length + 1e-9 < min_flange`
-unfoldable pub flangeFault : Part → Float → ℕ → Leg → List Fault
-flangeFault t thick f leg =
-    cond (lt (add binary64 (reachOf t leg) e-9) (minFlange thick)) (shortFlangeFault t (leg .face) f (reachOf t leg) (minFlange thick) ∷ []) []
+unfoldable pub flangeFlaw : Part → Float → ℕ → Leg → List Flaw
+flangeFlaw t thick f leg =
+    cond (lt (add binary64 (reachOf t leg) e-9) (minFlange thick)) (ShortFlange (leg .face) f (reachOf t leg) (minFlange thick) ∷ []) []
 
-unfoldable pub flangeFaults : Part → Float → ℕ → List Leg → List Fault
-flangeFaults t thick f [] = []
-flangeFaults t thick f (leg ∷ legs) = flangeFault t thick f leg ++ flangeFaults t thick f legs
+unfoldable pub flangeFlaws : Part → Float → ℕ → List Leg → List Flaw
+flangeFlaws t thick f [] = []
+flangeFlaws t thick f (leg ∷ legs) = flangeFlaw t thick f leg ++ flangeFlaws t thick f legs
 
 -- of the bend with the inside face f, where it is one
-unfoldable pub bendFlanges : Part → Float → ℕ → List Fault
-bendFlanges t thick f = cond (isBend t thick f) (flangeFaults t thick f (flangesOf t thick f)) []
+unfoldable pub bendFlanges : Part → Float → ℕ → List Flaw
+bendFlanges t thick f = cond (isBend t thick f) (flangeFlaws t thick f (flangesOf t thick f)) []
 
 -- `for (inner, outer) in &bends`
-unfoldable pub shortFlanges : Part → Float → List Fault
+unfoldable pub shortFlanges : Part → Float → List Flaw
 shortFlanges t thick = joined (bendFlanges t thick) (facesOf t)

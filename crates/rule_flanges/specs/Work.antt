@@ -9,10 +9,10 @@ use Rattle.file_part.specs.Part.{Part}
 use Rattle.solid_faces.specs.Faces.{facesOf}
 use Rattle.round_all.specs.Round.{isRound}
 use Rattle.measure_sizes.specs.Reading.{ReadingBounds}
-use Rattle.fault_row.specs.Faults.{FaultsPut}
-use Rattle.fault_text.specs.Meaning.{faultOf, GoodRow}
+use Rattle.fault_row.specs.Flaws.{FlawsPut}
+use Rattle.fault_text.specs.Good.{Good}
 use Rattle.rule_flanges.specs.declared.legs.Leg.{Leg}
-use Rattle.rule_flanges.specs.Flanges.{takenFrom, reachOf, flangeFault}
+use Rattle.rule_flanges.specs.Flanges.{takenFrom, reachOf, flangeFlaw}
 
 -- leg i, three cells each
 unfoldable pub legAt : List ℕ → ℕ → Leg
@@ -46,4 +46,4 @@ pub record LegsTaken (t : Part) (legs : List Leg) (most n : ℕ) (cells cells′
 pub record FlangePut (bend : ℕ) (leg : Leg) (reach thick : Float) (from : ℕ) (cells cells′ : List ℕ) (numbers numbers′ : List Float) (r : ℕ) : Type 0 where
   pub few : r ≤ from + 1
   pub put : (t : Part) → reach ≡ reachOf t leg → ReadingBounds thick → bend < facesOf t → leg .face < facesOf t →
-      FaultsPut (faultOf t) (GoodRow t) from (flangeFault t thick bend leg) cells cells′ numbers numbers′ r
+      FlawsPut (Good t) from (flangeFlaw t thick bend leg) cells cells′ numbers numbers′ r

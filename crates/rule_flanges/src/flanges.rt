@@ -5,19 +5,17 @@ ghost use Rattle.file_part.specs.Part.{partOf};
 ghost use Rattle.solid_faces.specs.Faces.{facesOf};
 ghost use Rattle.measure_sizes.specs.Reading.{ReadingBounds};
 ghost use Rattle.sheet_bends.specs.Work.{SheetStands};
-ghost use Rattle.fault_row.specs.Faults.{FaultsPut};
-ghost use Rattle.fault_text.specs.Meaning.{faultOf, GoodRow};
-ghost use Rattle.rule_flanges.specs.Flanges.{reachOf, flangeFaults, shortFlanges};
+ghost use Rattle.fault_row.specs.Flaws.{FlawsPut};
+ghost use Rattle.fault_text.specs.Good.{Good};
+ghost use Rattle.rule_flanges.specs.Flanges.{reachOf, flangeFlaws, shortFlanges};
 ghost use Rattle.rule_flanges.specs.Work.{legsIn, LegThere, LegsThere, FlangePut};
 use crate::legs::Leg;
 use crate::legs::flanges;
 use crate::legs::leg_at;
 use crate::reach::Line;
 use crate::reach::face_reach;
-use fault_row::row::FaultRow;
-use fault_row::row::WARNING;
-use fault_row::row::put_row;
-use fault_text::kind::SHORT_FLANGE;
+use fault_row::flaw::Flaw;
+use fault_row::flaw::put_flaw;
 use file_part::read::vertex;
 use list_cells::cell;
 use round_all::round::round_at;
@@ -65,18 +63,8 @@ fn put_flange(
 {
     let min_flange = 4.0 * thick;
     if reach + 1e-9 < min_flange {
-        let row = FaultRow {
-            kind: SHORT_FLANGE,
-            severity: WARNING,
-            count: 1,
-            a: leg.face as u32,
-            b: bend as u32,
-            waived: 0,
-            x: reach,
-            y: min_flange,
-            z: 0.0,
-        };
-        return put_row(cells, numbers, from, row);
+        let flaw = Flaw::ShortFlange(leg.face as u32, bend as u32, reach, min_flange);
+        return put_flaw(cells, numbers, from, flaw);
     }
     from
 }
@@ -94,7 +82,7 @@ fn put_legs(
 ) -> usize
     requires { ⌜ SheetStands (now file) sheet (now words) (now reals) ⌝ ∗ ⌜ ReadingBounds (sheet .thickness) ⌝ ∗ ⌜ turn .bend < facesOf (partOf (now file)) ⌝ }
     requires { ⌜ LegsThere (partOf (now file)) (now legs) (turn .legs) ⌝ ∗ ⌜ turn .from + turn .legs ≤ 4294967295 ⌝ }
-    ensures { λ r. ⌜ FaultsPut (faultOf (partOf (now (file .entry)))) (GoodRow (partOf (now (file .entry)))) (turn .from) (flangeFaults (partOf (now (file .entry))) (sheet .thickness) (turn .bend) (legsIn (now (legs .entry)) (turn .legs))) (now (cells .entry)) (now (cells .exit)) (now (numbers .entry)) (now (numbers .exit)) r ⌝ ∗ ⌜ r ≤ turn .from + turn .legs ⌝ }
+    ensures { λ r. ⌜ FlawsPut (Good (partOf (now (file .entry)))) (turn .from) (flangeFlaws (partOf (now (file .entry))) (sheet .thickness) (turn .bend) (legsIn (now (legs .entry)) (turn .legs))) (now (cells .entry)) (now (cells .exit)) (now (numbers .entry)) (now (numbers .exit)) r ⌝ ∗ ⌜ r ≤ turn .from + turn .legs ⌝ }
 {
     let n = turn.legs;
     let mut k = turn.from;
@@ -119,7 +107,7 @@ pub fn put_short_flanges(
     from: usize,
 ) -> usize
     requires { ⌜ SheetStands (now file) sheet (now words) (now reals) ⌝ ∗ ⌜ ReadingBounds (sheet .thickness) ⌝ ∗ ⌜ from ≤ 65536 ⌝ }
-    ensures { λ r. ⌜ FaultsPut (faultOf (partOf (now (file .entry)))) (GoodRow (partOf (now (file .entry)))) from (shortFlanges (partOf (now (file .entry))) (sheet .thickness)) (now (cells .entry)) (now (cells .exit)) (now (numbers .entry)) (now (numbers .exit)) r ⌝ ∗ ⌜ r ≤ from + 2097152 ⌝ }
+    ensures { λ r. ⌜ FlawsPut (Good (partOf (now (file .entry)))) from (shortFlanges (partOf (now (file .entry))) (sheet .thickness)) (now (cells .entry)) (now (cells .exit)) (now (numbers .entry)) (now (numbers .exit)) r ⌝ ∗ ⌜ r ≤ from + 2097152 ⌝ }
 {
     let n = sheet.edges.faces;
     // Three cells for each neighbour of two faces.

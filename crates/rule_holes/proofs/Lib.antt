@@ -13,7 +13,7 @@
 --   hardened, soft, limits-are, need-is                               what they are
 --   least-accepted, need-within, need-nonneg                          how large they are
 -- HoleLaws: the rules on one hole
---   small-one, small-none, close-one, close-none                      one fault by a row, and no fault
+--   small-one, small-none, close-one, close-none                      one flaw by its row, and none
 --   hole-alone, hole-close                                            one rule after the other
 --   holes-start, holes-pass, holes-next, holes-end                    the loop over the faces; kind-room, .., hole-there: its places
 pub mod ChoiceLaws

@@ -15,8 +15,8 @@ use Rattle.wall_ray.specs.Strike.{e-9}
 use Rattle.round_all.specs.Round.{isRound, isHole, roundOf}
 use Rattle.measure_sizes.specs.Round.{diameterOf}
 use Rattle.sheet_bends.specs.Bends.{isBendFace, bendRadius}
-use Rattle.fault_row.specs.Fault.{Fault}
-use Rattle.fault_text.specs.Sheet.{sheetSmallHoleFault, holeNearBendFault, holeNearEdgeFault}
+use Rattle.fault_row.specs.declared.flaw.Flaw.{Flaw}
+use Rattle.fault_row.specs.declared.flaw.Flaw.the-variants.{SheetSmallHole, HoleNearBend, HoleNearEdge}
 use Rattle.rule_holes.specs.declared.nearest.Nearest.{Nearest}
 use Rattle.rule_holes.specs.Name.{isNamed}
 use Rattle.rule_holes.specs.Nearest.{nearestOf}
@@ -34,9 +34,9 @@ unfoldable pub minHole : Part → Float → Float
 minHole t thick = cond (isNamed t (bytes "Stainless") || isNamed t (bytes "304")) (mul binary64 six-fifths thick) thick
 
 -- `if d + 1e-9 < min_hole`, of the hole of face f
-unfoldable pub smallHole : Part → Float → ℕ → List Fault
+unfoldable pub smallHole : Part → Float → ℕ → List Flaw
 smallHole t thick f =
-    cond (lt (add binary64 (diameterOf (roundOf t f)) e-9) (minHole t thick)) (sheetSmallHoleFault t f (diameterOf (roundOf t f)) (minHole t thick) ∷ []) []
+    cond (lt (add binary64 (diameterOf (roundOf t f)) e-9) (minHole t thick)) (SheetSmallHole f (diameterOf (roundOf t f)) (minHole t thick) ∷ []) []
 
 -- ---- `Hole too close`
 -- `need`: near a bend, and elsewhere
@@ -44,22 +44,22 @@ unfoldable pub needOf : Part → Float → Bool → Float
 needOf t thick nearBend = cond nearBend (add binary64 (mul binary64 five-halves thick) (bendRadius t thick)) (mul binary64 two thick)
 
 -- `what`: "a bend", or "an edge or another hole"
-unfoldable pub tooCloseFault : Part → Bool → ℕ → ℕ → Float → Float → Fault
-tooCloseFault t nearBend f g gap need = cond nearBend (holeNearBendFault t f g gap need) (holeNearEdgeFault t f g gap need)
+unfoldable pub tooClose : Bool → ℕ → ℕ → Float → Float → Flaw
+tooClose nearBend f g gap need = cond nearBend (HoleNearBend f g gap need) (HoleNearEdge f g gap need)
 
 -- `if gap + 1e-9 < need`, with `gap.max(0.0)` in the message, of the hole of face f and what is nearest to it
-unfoldable pub gapFault : Part → Bool → Float → ℕ → Nearest → List Fault
-gapFault t nearBend need f n = cond (lt (add binary64 (n .gap) e-9) need) (tooCloseFault t nearBend f (n .other) (maxOf (n .gap) vector.zero) need ∷ []) []
+unfoldable pub gapFlaw : Bool → Float → ℕ → Nearest → List Flaw
+gapFlaw nearBend need f n = cond (lt (add binary64 (n .gap) e-9) need) (tooClose nearBend f (n .other) (maxOf (n .gap) vector.zero) need ∷ []) []
 
 -- `if let Some((gap, other, near_bend)) = nearest`
-unfoldable pub closeFault : Part → Float → ℕ → Nearest → List Fault
-closeFault t thick f n =
-    cond (n .found) (gapFault t (isBendFace t thick (n .other)) (needOf t thick (isBendFace t thick (n .other))) f n) []
+unfoldable pub closeFlaw : Part → Float → ℕ → Nearest → List Flaw
+closeFlaw t thick f n =
+    cond (n .found) (gapFlaw (isBendFace t thick (n .other)) (needOf t thick (isBendFace t thick (n .other))) f n) []
 
 -- ---- both, of face f where it is a hole
-unfoldable pub holeFaults : Part → Float → ℕ → List Fault
-holeFaults t thick f = cond (isRound t f && isHole t f) (smallHole t thick f ++ closeFault t thick f (nearestOf t (roundOf t f))) []
+unfoldable pub holeFlaws : Part → Float → ℕ → List Flaw
+holeFlaws t thick f = cond (isRound t f && isHole t f) (smallHole t thick f ++ closeFlaw t thick f (nearestOf t (roundOf t f))) []
 
 -- `for h in &holes`
-unfoldable pub sheetHoles : Part → Float → List Fault
-sheetHoles t thick = joined (holeFaults t thick) (facesOf t)
+unfoldable pub sheetHoles : Part → Float → List Flaw
+sheetHoles t thick = joined (holeFlaws t thick) (facesOf t)

@@ -15,13 +15,13 @@ use Rattle.round_all.specs.declared.round.Round.{Round}
 use Rattle.round_all.specs.Round.{roundOf}
 use Rattle.measure_sizes.specs.Reading.{ReadingBounds}
 use Rattle.measure_sizes.specs.Round.{RoundBounds}
-use Rattle.fault_row.specs.Faults.{FaultsPut}
-use Rattle.fault_text.specs.Meaning.{faultOf, GoodRow}
+use Rattle.fault_row.specs.Flaws.{FlawsPut}
+use Rattle.fault_text.specs.Good.{Good}
 use Rattle.rule_holes.specs.declared.nearest.Nearest.{Nearest}
 use Rattle.rule_holes.specs.declared.holes.Limits.{Limits}
 use Rattle.rule_holes.specs.Name.{startsWith}
 use Rattle.rule_holes.specs.Nearest.{platesOf, isAmong, gapBetween}
-use Rattle.rule_holes.specs.Holes.{minHole, needOf, smallHole, gapFault, holeFaults}
+use Rattle.rule_holes.specs.Holes.{minHole, needOf, smallHole, gapFlaw, holeFlaws}
 
 -- ---- beside Name.antt
 -- the text has these bytes from place `at` on
@@ -53,15 +53,15 @@ pub record LimitsOf (t : Part) (thick : Float) (l : Limits) : Type 0 where
 pub record SmallPut (hole : Round) (least : Float) (from : ℕ) (cells cells′ : List ℕ) (numbers numbers′ : List Float) (r : ℕ) : Type 0 where
   pub few : r ≤ from + 1
   pub put : (t : Part) (thick : Float) → least ≡ minHole t thick → hole ≡ roundOf t (hole .face) → ReadingBounds thick → RoundBounds hole → hole .face < facesOf t →
-      FaultsPut (faultOf t) (GoodRow t) from (smallHole t thick (hole .face)) cells cells′ numbers numbers′ r
+      FlawsPut (Good t) from (smallHole t thick (hole .face)) cells cells′ numbers numbers′ r
 
 -- the fault of a hole, face h, that is closer than `need` to what is nearest, or none, in any part
 pub record ClosePut (nearBend : Bool) (need : Float) (h : ℕ) (nearest : Nearest) (from : ℕ) (cells cells′ : List ℕ) (numbers numbers′ : List Float) (r : ℕ) : Type 0 where
   pub few : r ≤ from + 1
   pub put : (t : Part) → Within need (2 ^ 20) → h < facesOf t → nearest .other < facesOf t → NonNeg need →
-      FaultsPut (faultOf t) (GoodRow t) from (gapFault t nearBend need h nearest) cells cells′ numbers numbers′ r
+      FlawsPut (Good t) from (gapFlaw nearBend need h nearest) cells cells′ numbers numbers′ r
 
 -- the faults of a part's holes below face f are put
 pub record HolesTo (t : Part) (thick : Float) (f from : ℕ) (cells cells′ : List ℕ) (numbers numbers′ : List Float) (r : ℕ) : Type 0 where
   pub few : r ≤ from + 2 * f
-  pub put : FaultsPut (faultOf t) (GoodRow t) from (joined (holeFaults t thick) f) cells cells′ numbers numbers′ r
+  pub put : FlawsPut (Good t) from (joined (holeFlaws t thick) f) cells cells′ numbers numbers′ r

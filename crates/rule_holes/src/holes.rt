@@ -8,20 +8,16 @@ ghost use Rattle.solid_faces.specs.Faces.{facesOf, Checked};
 ghost use Rattle.round_all.specs.Round.{isRound, isHole, roundOf};
 ghost use Rattle.measure_sizes.specs.Reading.{ReadingBounds};
 ghost use Rattle.sheet_bends.specs.Work.{SheetStands};
-ghost use Rattle.fault_row.specs.Faults.{FaultsPut};
-ghost use Rattle.fault_text.specs.Meaning.{faultOf, GoodRow};
-ghost use Rattle.rule_holes.specs.Holes.{minHole, holeFaults, sheetHoles};
+ghost use Rattle.fault_row.specs.Flaws.{FlawsPut};
+ghost use Rattle.fault_text.specs.Good.{Good};
+ghost use Rattle.rule_holes.specs.Holes.{minHole, tooClose, holeFlaws, sheetHoles};
 ghost use Rattle.rule_holes.specs.Work.{LimitsOf, SmallPut, ClosePut};
 use crate::name::is_named;
 use crate::nearest::Nearest;
 use crate::nearest::nearest_of;
 use crate::nearest::put_plates;
-use fault_row::row::FaultRow;
-use fault_row::row::WARNING;
-use fault_row::row::put_row;
-use fault_text::kind::HOLE_NEAR_BEND;
-use fault_text::kind::HOLE_NEAR_EDGE;
-use fault_text::kind::SHEET_SMALL_HOLE;
+use fault_row::flaw::Flaw;
+use fault_row::flaw::put_flaw;
 use num_real::select::max;
 use round_all::round::Round;
 use round_all::round::round_at;
@@ -86,29 +82,20 @@ fn put_small_hole(
 {
     let d = 2.0 * hole.radius;
     if d + 1e-9 < least {
-        let row = FaultRow {
-            kind: SHEET_SMALL_HOLE,
-            severity: WARNING,
-            count: 1,
-            a: hole.face as u32,
-            b: 0,
-            waived: 0,
-            x: d,
-            y: least,
-            z: 0.0,
-        };
-        return put_row(cells, numbers, from, row);
+        let flaw = Flaw::SheetSmallHole(hole.face as u32, d, least);
+        return put_flaw(cells, numbers, from, flaw);
     }
     from
 }
 
-fn kind_of(near_bend: bool) -> u32
-    ensures { λ r. ⌜ r ≡ cond «near_bend» 14 15 ⌝ }
+// The hole a that is too close to the face b.
+fn close_flaw(near_bend: bool, a: u32, b: u32, gap: f64, need: f64) -> Flaw
+    ensures { λ r. ⌜ r ≡ tooClose «near_bend» a b gap need ⌝ }
 {
     if near_bend {
-        return HOLE_NEAR_BEND;
+        return Flaw::HoleNearBend(a, b, gap, need);
     }
-    HOLE_NEAR_EDGE
+    Flaw::HoleNearEdge(a, b, gap, need)
 }
 
 // The row of a hole, face h, that is too close to what is nearest, after `from` others. How many there are then.
@@ -126,18 +113,14 @@ fn put_close(
 {
     let gap = nearest.gap;
     if gap + 1e-9 < need {
-        let row = FaultRow {
-            kind: kind_of(near_bend),
-            severity: WARNING,
-            count: 1,
-            a: h as u32,
-            b: nearest.other as u32,
-            waived: 0,
-            x: max(gap, 0.0),
-            y: need,
-            z: 0.0,
-        };
-        return put_row(cells, numbers, from, row);
+        let flaw = close_flaw(
+            near_bend,
+            h as u32,
+            nearest.other as u32,
+            max(gap, 0.0),
+            need,
+        );
+        return put_flaw(cells, numbers, from, flaw);
     }
     from
 }
@@ -163,7 +146,7 @@ fn put_hole(
     requires { ⌜ SheetStands (now file) (turn .sheet) (now words) (now reals) ⌝ ∗ ⌜ ReadingBounds (turn .sheet .thickness) ⌝ ∗ ⌜ LimitsOf (partOf (now file)) (turn .sheet .thickness) (turn .limits) ⌝ }
     requires { ⌜ hole .face < facesOf (partOf (now file)) ⌝ ∗ ⌜ hole ≡ roundOf (partOf (now file)) (hole .face) ⌝ ∗ ⌜ isRound (partOf (now file)) (hole .face) ≡ true ⌝ ∗ ⌜ isHole (partOf (now file)) (hole .face) ≡ true ⌝ }
     requires { ⌜ facesOf (partOf (now file)) ≤ length (now plates) ⌝ ∗ ⌜ turn .from + 1 < 4294967296 ⌝ }
-    ensures { λ r. ⌜ FaultsPut (faultOf (partOf (now (file .entry)))) (GoodRow (partOf (now (file .entry)))) (turn .from) (holeFaults (partOf (now (file .entry))) (turn .sheet .thickness) (hole .face)) (now (cells .entry)) (now (cells .exit)) (now (numbers .entry)) (now (numbers .exit)) r ⌝ }
+    ensures { λ r. ⌜ FlawsPut (Good (partOf (now (file .entry)))) (turn .from) (holeFlaws (partOf (now (file .entry))) (turn .sheet .thickness) (hole .face)) (now (cells .entry)) (now (cells .exit)) (now (numbers .entry)) (now (numbers .exit)) r ⌝ }
     ensures { λ r. ⌜ r ≤ turn .from + 2 ⌝ ∗ ⌜ length (now (plates .exit)) ≡ length (now (plates .entry)) ⌝ }
 {
     let sheet = turn.sheet;
@@ -197,7 +180,7 @@ pub fn put_holes(
     from: usize,
 ) -> usize
     requires { ⌜ SheetStands (now file) sheet (now words) (now reals) ⌝ ∗ ⌜ ReadingBounds (sheet .thickness) ⌝ ∗ ⌜ from ≤ 4194304 ⌝ }
-    ensures { λ r. ⌜ FaultsPut (faultOf (partOf (now (file .entry)))) (GoodRow (partOf (now (file .entry)))) from (sheetHoles (partOf (now (file .entry))) (sheet .thickness)) (now (cells .entry)) (now (cells .exit)) (now (numbers .entry)) (now (numbers .exit)) r ⌝ ∗ ⌜ r ≤ from + 2048 ⌝ }
+    ensures { λ r. ⌜ FlawsPut (Good (partOf (now (file .entry)))) from (sheetHoles (partOf (now (file .entry))) (sheet .thickness)) (now (cells .entry)) (now (cells .exit)) (now (numbers .entry)) (now (numbers .exit)) r ⌝ ∗ ⌜ r ≤ from + 2048 ⌝ }
 {
     let at = sheet.edges.at;
     let n = sheet.edges.faces;

@@ -9,10 +9,10 @@ use Rattle.solid_faces.specs.Faces.{faceCount, facesOf}
 use Rattle.solid_pairs.specs.Pairs.{overFacePairs}
 use Rattle.round_all.specs.Round.{roundsTo, roundsOf}
 use Rattle.wall_pairs.specs.Walls.{overWalls}
-use Rattle.fault_row.specs.Fault.{Fault}
+use Rattle.fault_row.specs.declared.flaw.Flaw.{Flaw}
 use Rattle.rule_corners.specs.Corners.{overCorners}
 use Rattle.rule_corners.specs.Sharp.{sharpCorners}
-use Rattle.rule_machining.specs.Machining.{thinWalls, faultsOfRounds, roundsFaults}
+use Rattle.rule_machining.specs.Machining.{thinWalls, flawsOfRounds, roundsFlaws}
 use Rattle.rule_machining.specs.All.{machining}
 
 module _ (t : Part) (none : t .polygons ≡ 0) where
@@ -20,12 +20,12 @@ module _ (t : Part) (none : t .polygons ≡ 0) where
   unfolding facesOf faceCount countBelow
   no-faces = ap (faceCount t) none
 
-  no-pairs : (one other : ℕ → ℕ) (m : ℕ) (h : ℕ → ℕ → List ℕ → List Fault) → overFacePairs t one other m h ≡ []
+  no-pairs : (one other : ℕ → ℕ) (m : ℕ) (h : ℕ → ℕ → List ℕ → List Flaw) → overFacePairs t one other m h ≡ []
   unfolding overFacePairs overPairs joined
   no-pairs one other m h = rw no-faces
 
-  no-rounds : roundsFaults t ≡ []
-  unfolding roundsFaults roundsOf roundsTo faultsOfRounds
+  no-rounds : roundsFlaws t ≡ []
+  unfolding roundsFlaws roundsOf roundsTo flawsOfRounds
   no-rounds = rw no-faces
 
   pub machining-none : machining t ≡ []

@@ -9,7 +9,6 @@ use lib.ListN.{length, getD}
 use lib.Ieee.{Float, lt}
 use Rattle.num_text.specs.Decimal.{accepted}
 use Rattle.num_text.proofs.NeverRefused.{accepted-at}
-use Rattle.math.specs.Vector.{zero}
 use Rattle.file_part.specs.Part.{Part, partOf}
 use Rattle.solid_faces.specs.Faces.{facesOf}
 use Rattle.scratch.specs.declared.regions.Regions.{Regions}
@@ -23,16 +22,15 @@ use Rattle.wall_pairs.specs.declared.Counts.{Counts}
 use Rattle.wall_pairs.specs.Work.{Counted}
 use Rattle.measure_sizes.specs.Round.{diameterOf, ratioOf, RoundBounds}
 use Rattle.measure_sizes.proofs.Rounds.{round-bounds}
-use Rattle.fault_row.specs.declared.row.FaultRow.{FaultRow}
-use Rattle.fault_row.specs.Fault.{Fault}
-use Rattle.fault_row.specs.Row.{row, RowPut}
-use Rattle.fault_row.specs.Faults.{FaultsPut}
-use Rattle.fault_row.proofs.FaultLaws.{faults-none, faults-one, faults-then, faults-same}
-use Rattle.fault_text.specs.Kind.{smallHole, deepHoleMax, deepHoleStandard, tightInsideRadius, deepInsideCorner}
-use Rattle.fault_text.specs.Machining.{minDrill, minMillRadius, smallHoleFault, deepHoleMaxFault, deepHoleStandardFault, tightInsideRadiusFault, deepInsideCornerFault}
-use Rattle.fault_text.specs.Meaning.{faultOf, GoodRow}
-use Rattle.fault_text.proofs.MeaningLaws.{small-hole-row, deep-hole-max-row, deep-hole-standard-row, tight-inside-radius-row, deep-inside-corner-row, small-hole-printed, deep-hole-max-printed, deep-hole-standard-printed, tight-inside-radius-printed, deep-inside-corner-printed, good-row}
-use Rattle.rule_machining.specs.Machining.{standardReach, maxReach, smallHoles, deepHoles, tightRadii, deepCorners, holeFaults, insideFaults, roundFaults, faultsOfRounds, roundsFaults}
+use Rattle.fault_row.specs.declared.flaw.Flaw.{Flaw}
+use Rattle.fault_row.specs.declared.flaw.Flaw.the-variants.{SmallHole, DeepHoleMax, DeepHoleStandard, TightInsideRadius, DeepInsideCorner}
+use Rattle.fault_row.specs.Row.{RowPut}
+use Rattle.fault_row.specs.Flaw.{rowOf}
+use Rattle.fault_row.specs.Flaws.{FlawsPut}
+use Rattle.fault_row.proofs.FlawLaws.{flaws-none, flaws-one, flaws-then, flaws-same}
+use Rattle.fault_text.specs.Machining.{minDrill, minMillRadius}
+use Rattle.fault_text.specs.Good.{Good}
+use Rattle.rule_machining.specs.Machining.{standardReach, maxReach, smallHoles, deepHoles, tightRadii, deepCorners, holeFlaws, insideFlaws, roundFlaws, flawsOfRounds, roundsFlaws}
 use Rattle.rule_machining.specs.Work.{RoundPut}
 
 -- ---- what a round's messages print is accepted
@@ -49,107 +47,89 @@ module _ (r : Round) (b : RoundBounds r) where
   ratio-accepted : accepted (ratioOf r) 1 ≡ true
   ratio-accepted = accepted-at (ratioOf r) (2 ^ 27) 1 (b .ratio-nonneg) (b .ratio-within) (lit< tt) (omega arith)
 
--- ---- no fault
+-- ---- no flaw
 module _ {round : Round} {cells : List ℕ} {numbers : List Float} {from : ℕ} where
-  none-put : (rule : Part → Round → List Fault) (most : ℕ) → ((t : Part) → rule t round ≡ []) → RoundPut rule most round from cells cells numbers numbers from
-  none-put rule most e = record { few = omega arith; put = λ t low b. faults-same (sym (e t)) (faults-none from cells numbers) }
+  none-put : (rule : Round → List Flaw) (most : ℕ) → rule round ≡ [] → RoundPut rule most round from cells cells numbers numbers from
+  none-put rule most e = record { few = omega arith; put = λ t low b. flaws-same (sym e) (flaws-none from cells numbers) }
 
   pub small-hole-none : lt (diameterOf round) minDrill ≡ false → RoundPut smallHoles 1 round from cells cells numbers numbers from
   unfolding smallHoles
-  small-hole-none e = none-put smallHoles 1 (λ t. rw e)
+  small-hole-none e = none-put smallHoles 1 (rw e)
 
   pub deep-hole-none : lt maxReach (ratioOf round) ≡ false → lt standardReach (ratioOf round) ≡ false → RoundPut deepHoles 1 round from cells cells numbers numbers from
   unfolding deepHoles
-  deep-hole-none e h = none-put deepHoles 1 (λ t. rw (e, h))
+  deep-hole-none e h = none-put deepHoles 1 (rw (e, h))
 
   pub tight-radius-none : lt (round .radius) minMillRadius ≡ false → RoundPut tightRadii 1 round from cells cells numbers numbers from
   unfolding tightRadii
-  tight-radius-none e = none-put tightRadii 1 (λ t. rw e)
+  tight-radius-none e = none-put tightRadii 1 (rw e)
 
   pub deep-corner-none : lt standardReach (ratioOf round) ≡ false → RoundPut deepCorners 1 round from cells cells numbers numbers from
   unfolding deepCorners
-  deep-corner-none e = none-put deepCorners 1 (λ t. rw e)
+  deep-corner-none e = none-put deepCorners 1 (rw e)
 
-  pub convex-none : round .concave ≡ false → RoundPut roundFaults 2 round from cells cells numbers numbers from
-  unfolding roundFaults
-  convex-none e = none-put roundFaults 2 (λ t. rw e)
+  pub convex-none : round .concave ≡ false → RoundPut roundFlaws 2 round from cells cells numbers numbers from
+  unfolding roundFlaws
+  convex-none e = none-put roundFlaws 2 (rw e)
 
--- ---- one fault, and the rules by what the round is
+-- ---- one flaw, and the rules by what the round is
 module _ {round : Round} {cells cells′ : List ℕ} {numbers numbers′ : List Float} {from r : ℕ} where
-  one-put : (rule : Part → Round → List Fault) (f : Part → Fault) (w : FaultRow) → ((t : Part) → rule t round ≡ f t ∷ []) → RowPut from w cells cells′ numbers numbers′ r →
-      ((t : Part) → faultOf t w ≡ f t) → ((t : Part) → round .face < facesOf t → RoundBounds round → GoodRow t w) → RoundPut rule 1 round from cells cells′ numbers numbers′ r
-  one-put rule f w e p means good =
-      record { few = omega (arith, p .count); put = λ t low b. faults-same (sym (e t)) (faults-one (f t) p (means t) (good t low b)) }
+  one-put : (rule : Round → List Flaw) (f : Flaw) → rule round ≡ f ∷ [] → RowPut from (rowOf f) cells cells′ numbers numbers′ r →
+      ((t : Part) → round .face < facesOf t → RoundBounds round → Good t f) → RoundPut rule 1 round from cells cells′ numbers numbers′ r
+  one-put rule f e p good = record { few = omega (arith, p .count); put = λ t low b. flaws-same (sym e) (flaws-one f p (good t low b)) }
 
-  pub small-hole-one : lt (diameterOf round) minDrill ≡ true → RowPut from (row smallHole 1 1 (round .face) 0 0 (diameterOf round) zero zero) cells cells′ numbers numbers′ r →
+  pub small-hole-one : lt (diameterOf round) minDrill ≡ true → RowPut from (rowOf (SmallHole (round .face) (diameterOf round))) cells cells′ numbers numbers′ r →
       RoundPut smallHoles 1 round from cells cells′ numbers numbers′ r
-  unfolding smallHoles
-  small-hole-one e p =
-      one-put smallHoles (λ t. smallHoleFault t (round .face) (diameterOf round)) _ (λ t. rw e) p (λ t. small-hole-row t (round .face) (diameterOf round))
-      (λ t low b. good-row t smallHole 1 (round .face) 0 (diameterOf round) zero zero (omega arith) (omega arith) (omega arith) low (omega arith)
-      (small-hole-printed t (round .face) (diameterOf round) (diameter-accepted round b)))
+  unfolding smallHoles Good
+  small-hole-one e p = one-put smallHoles (SmallHole (round .face) (diameterOf round)) (rw e) p (λ t low b. (low, diameter-accepted round b))
 
   pub deep-hole-max-one : lt maxReach (ratioOf round) ≡ true →
-      RowPut from (row deepHoleMax 1 1 (round .face) 0 0 (ratioOf round) (diameterOf round) (round .length)) cells cells′ numbers numbers′ r →
+      RowPut from (rowOf (DeepHoleMax (round .face) (ratioOf round) (diameterOf round) (round .length))) cells cells′ numbers numbers′ r →
       RoundPut deepHoles 1 round from cells cells′ numbers numbers′ r
-  unfolding deepHoles
-  deep-hole-max-one e p =
-      one-put deepHoles (λ t. deepHoleMaxFault t (round .face) (ratioOf round) (diameterOf round) (round .length)) _ (λ t. rw e) p
-      (λ t. deep-hole-max-row t (round .face) (ratioOf round) (diameterOf round) (round .length))
-      (λ t low b. good-row t deepHoleMax 1 (round .face) 0 (ratioOf round) (diameterOf round) (round .length) (omega arith) (omega arith) (omega arith) low (omega arith)
-      (deep-hole-max-printed t (round .face) (ratioOf round) (diameterOf round) (round .length) (ratio-accepted round b) (diameter-accepted round b) (length-accepted round b)))
+  unfolding deepHoles Good
+  deep-hole-max-one e p = one-put deepHoles (DeepHoleMax (round .face) (ratioOf round) (diameterOf round) (round .length)) (rw e) p (λ t low b. (low, ratio-accepted round b, diameter-accepted round b, length-accepted round b))
 
   pub deep-hole-standard-one : lt maxReach (ratioOf round) ≡ false → lt standardReach (ratioOf round) ≡ true →
-      RowPut from (row deepHoleStandard 2 1 (round .face) 0 0 (ratioOf round) zero zero) cells cells′ numbers numbers′ r → RoundPut deepHoles 1 round from cells cells′ numbers numbers′ r
-  unfolding deepHoles
-  deep-hole-standard-one e h p =
-      one-put deepHoles (λ t. deepHoleStandardFault t (round .face) (ratioOf round)) _ (λ t. rw (e, h)) p (λ t. deep-hole-standard-row t (round .face) (ratioOf round))
-      (λ t low b. good-row t deepHoleStandard 2 (round .face) 0 (ratioOf round) zero zero (omega arith) (omega arith) (omega arith) low (omega arith)
-      (deep-hole-standard-printed t (round .face) (ratioOf round) (ratio-accepted round b)))
+      RowPut from (rowOf (DeepHoleStandard (round .face) (ratioOf round))) cells cells′ numbers numbers′ r → RoundPut deepHoles 1 round from cells cells′ numbers numbers′ r
+  unfolding deepHoles Good
+  deep-hole-standard-one e h p = one-put deepHoles (DeepHoleStandard (round .face) (ratioOf round)) (rw (e, h)) p (λ t low b. (low, ratio-accepted round b))
 
-  pub tight-radius-one : lt (round .radius) minMillRadius ≡ true → RowPut from (row tightInsideRadius 1 1 (round .face) 0 0 (round .radius) zero zero) cells cells′ numbers numbers′ r →
+  pub tight-radius-one : lt (round .radius) minMillRadius ≡ true → RowPut from (rowOf (TightInsideRadius (round .face) (round .radius))) cells cells′ numbers numbers′ r →
       RoundPut tightRadii 1 round from cells cells′ numbers numbers′ r
-  unfolding tightRadii
-  tight-radius-one e p =
-      one-put tightRadii (λ t. tightInsideRadiusFault t (round .face) (round .radius)) _ (λ t. rw e) p (λ t. tight-inside-radius-row t (round .face) (round .radius))
-      (λ t low b. good-row t tightInsideRadius 1 (round .face) 0 (round .radius) zero zero (omega arith) (omega arith) (omega arith) low (omega arith)
-      (tight-inside-radius-printed t (round .face) (round .radius) (radius-accepted round b)))
+  unfolding tightRadii Good
+  tight-radius-one e p = one-put tightRadii (TightInsideRadius (round .face) (round .radius)) (rw e) p (λ t low b. (low, radius-accepted round b))
 
   pub deep-corner-one : lt standardReach (ratioOf round) ≡ true →
-      RowPut from (row deepInsideCorner 1 1 (round .face) 0 0 (ratioOf round) (round .radius) (round .length)) cells cells′ numbers numbers′ r →
+      RowPut from (rowOf (DeepInsideCorner (round .face) (ratioOf round) (round .radius) (round .length))) cells cells′ numbers numbers′ r →
       RoundPut deepCorners 1 round from cells cells′ numbers numbers′ r
-  unfolding deepCorners
-  deep-corner-one e p =
-      one-put deepCorners (λ t. deepInsideCornerFault t (round .face) (ratioOf round) (round .radius) (round .length)) _ (λ t. rw e) p
-      (λ t. deep-inside-corner-row t (round .face) (ratioOf round) (round .radius) (round .length))
-      (λ t low b. good-row t deepInsideCorner 1 (round .face) 0 (ratioOf round) (round .radius) (round .length) (omega arith) (omega arith) (omega arith) low (omega arith)
-      (deep-inside-corner-printed t (round .face) (ratioOf round) (round .radius) (round .length) (ratio-accepted round b) (radius-accepted round b) (length-accepted round b)))
+  unfolding deepCorners Good
+  deep-corner-one e p = one-put deepCorners (DeepInsideCorner (round .face) (ratioOf round) (round .radius) (round .length)) (rw e) p (λ t low b. (low, ratio-accepted round b, radius-accepted round b, length-accepted round b))
 
-  pub hole-put : round .concave ≡ true → round .hole ≡ true → RoundPut holeFaults 2 round from cells cells′ numbers numbers′ r →
-      RoundPut roundFaults 2 round from cells cells′ numbers numbers′ r
-  unfolding roundFaults
-  hole-put e h p = record { few = p .few; put = λ t low b. faults-same (rw (e, h)) (p .put t low b) }
+  pub hole-put : round .concave ≡ true → round .hole ≡ true → RoundPut holeFlaws 2 round from cells cells′ numbers numbers′ r →
+      RoundPut roundFlaws 2 round from cells cells′ numbers numbers′ r
+  unfolding roundFlaws
+  hole-put e h p = record { few = p .few; put = λ t low b. flaws-same (rw (e, h)) (p .put t low b) }
 
-  pub inside-put : round .concave ≡ true → round .hole ≡ false → RoundPut insideFaults 2 round from cells cells′ numbers numbers′ r →
-      RoundPut roundFaults 2 round from cells cells′ numbers numbers′ r
-  unfolding roundFaults
-  inside-put e h p = record { few = p .few; put = λ t low b. faults-same (rw (e, h)) (p .put t low b) }
+  pub inside-put : round .concave ≡ true → round .hole ≡ false → RoundPut insideFlaws 2 round from cells cells′ numbers numbers′ r →
+      RoundPut roundFlaws 2 round from cells cells′ numbers numbers′ r
+  unfolding roundFlaws
+  inside-put e h p = record { few = p .few; put = λ t low b. flaws-same (rw (e, h)) (p .put t low b) }
 
 -- ---- one rule after another
 module _ {round : Round} {c c′ c″ : List ℕ} {n n′ n″ : List Float} {from k r : ℕ} where
-  pub hole-faults : RoundPut smallHoles 1 round from c c′ n n′ k → RoundPut deepHoles 1 round k c′ c″ n′ n″ r → RoundPut holeFaults 2 round from c c″ n n″ r
-  unfolding holeFaults
-  hole-faults p q = record { few = omega (arith, p .few, q .few); put = λ t low b. faults-then (p .put t low b) (q .put t low b) }
+  pub hole-faults : RoundPut smallHoles 1 round from c c′ n n′ k → RoundPut deepHoles 1 round k c′ c″ n′ n″ r → RoundPut holeFlaws 2 round from c c″ n n″ r
+  unfolding holeFlaws
+  hole-faults p q = record { few = omega (arith, p .few, q .few); put = λ t low b. flaws-then (p .put t low b) (q .put t low b) }
 
-  pub inside-faults : RoundPut tightRadii 1 round from c c′ n n′ k → RoundPut deepCorners 1 round k c′ c″ n′ n″ r → RoundPut insideFaults 2 round from c c″ n n″ r
-  unfolding insideFaults
-  inside-faults p q = record { few = omega (arith, p .few, q .few); put = λ t low b. faults-then (p .put t low b) (q .put t low b) }
+  pub inside-faults : RoundPut tightRadii 1 round from c c′ n n′ k → RoundPut deepCorners 1 round k c′ c″ n′ n″ r → RoundPut insideFlaws 2 round from c c″ n n″ r
+  unfolding insideFlaws
+  inside-faults p q = record { few = omega (arith, p .few, q .few); put = λ t low b. flaws-then (p .put t low b) (q .put t low b) }
 
 -- ---- one round more
-pub rounds-then : (t : Part) (rs : List Round) (r : Round) → faultsOfRounds t (rs ++ (r ∷ [])) ≡ faultsOfRounds t rs ++ roundFaults t r
-unfolding faultsOfRounds
-rounds-then t [] r = append-nil (roundFaults t r)
-rounds-then t (q ∷ rs) r = ap (λ (x : List Fault). roundFaults t q ++ x) (rounds-then t rs r) ∙ sym (append-assoc (roundFaults t q) (faultsOfRounds t rs) (roundFaults t r))
+pub rounds-then : (rs : List Round) (r : Round) → flawsOfRounds (rs ++ (r ∷ [])) ≡ flawsOfRounds rs ++ roundFlaws r
+unfolding flawsOfRounds
+rounds-then [] r = append-nil (roundFlaws r)
+rounds-then (q ∷ rs) r = ap (λ (x : List Flaw). roundFlaws q ++ x) (rounds-then rs r) ∙ sym (append-assoc (roundFlaws q) (flawsOfRounds rs) (roundFlaws r))
 
 -- ---- the loop over the faces
 kind-none : (t : Part) (f : ℕ) → roundKind t f ≡ 0 → isRound t f ≡ false
@@ -168,16 +148,16 @@ round-face t f = refl
 
 -- the faults of the faces below f are put
 abbrev pub RoundsPut : Part → ℕ → ℕ → List ℕ → List ℕ → List Float → List Float → ℕ → Type 0
-RoundsPut t f from cells cells′ numbers numbers′ k = FaultsPut (faultOf t) (GoodRow t) from (faultsOfRounds t (roundsTo t f)) cells cells′ numbers numbers′ k
+RoundsPut t f from cells cells′ numbers numbers′ k = FlawsPut (Good t) from (flawsOfRounds (roundsTo t f)) cells cells′ numbers numbers′ k
 
 pub rounds-start : (t : Part) (from : ℕ) (cells : List ℕ) (numbers : List Float) → RoundsPut t 0 from cells cells numbers numbers from
-unfolding roundsTo faultsOfRounds
-rounds-start t from cells numbers = faults-none from cells numbers
+unfolding roundsTo flawsOfRounds
+rounds-start t from cells numbers = flaws-none from cells numbers
 
 pub rounds-end : (t : Part) {f from k : ℕ} {cells cells′ : List ℕ} {numbers numbers′ : List Float} → f ≡ facesOf t → RoundsPut t f from cells cells′ numbers numbers′ k →
-    FaultsPut (faultOf t) (GoodRow t) from (roundsFaults t) cells cells′ numbers numbers′ k
-unfolding roundsFaults roundsOf
-rounds-end t e p = faults-same (ap (λ (n : ℕ). faultsOfRounds t (roundsTo t n)) e) p
+    FlawsPut (Good t) from (roundsFlaws t) cells cells′ numbers numbers′ k
+unfolding roundsFlaws roundsOf
+rounds-end t e p = flaws-same (ap (λ (n : ℕ). flawsOfRounds (roundsTo t n)) e) p
 
 module _ (s : List ℕ) (at : Regions) (words : List ℕ) (reals : List Float) (counts : Counts) (f : ℕ) (h : Standing s at words reals)
     (kept : Rounds (partOf s) at words reals) (counted : Counted (partOf s) counts) (inside : f < counts .faces) where
@@ -219,14 +199,14 @@ module _ (s : List ℕ) (at : Regions) (words : List ℕ) (reals : List Float) (
   -- a face that is no round
   pub rounds-pass : {from k : ℕ} {cells cells′ : List ℕ} {numbers numbers′ : List Float} → getD words (at .kinds + f) 0 ≡ 0 →
       RoundsPut (partOf s) f from cells cells′ numbers numbers′ k → RoundsPut (partOf s) (f + 1) from cells cells′ numbers numbers′ k
-  rounds-pass e p = faults-same (ap (faultsOfRounds (partOf s)) (sym (rounds-skip (partOf s) f (kind-none (partOf s) f (sym kind-is ∙ e))))) p
+  rounds-pass e p = flaws-same (ap flawsOfRounds (sym (rounds-skip (partOf s) f (kind-none (partOf s) f (sym kind-is ∙ e))))) p
 
   -- and one that is
   pub rounds-next : {from k r : ℕ} {c c′ c″ : List ℕ} {n n′ n″ : List Float} (round : Round) → (getD words (at .kinds + f) 0 ≡ 0 → ⊥) → round ≡ roundOf (partOf s) f →
-      RoundsPut (partOf s) f from c c′ n n′ k → RoundPut roundFaults 2 round k c′ c″ n′ n″ r → RoundsPut (partOf s) (f + 1) from c c″ n n″ r
+      RoundsPut (partOf s) f from c c′ n n′ k → RoundPut roundFlaws 2 round k c′ c″ n′ n″ r → RoundsPut (partOf s) (f + 1) from c c″ n n″ r
   rounds-next {from} {k} {r} {c} {c′} {c″} {n} {n′} {n″} round not e p q =
       let t = partOf s in
       let face : round .face ≡ f = ap (λ (x : Round). x .face) e ∙ round-face t f in
       let b : RoundBounds round = subst RoundBounds (sym e) (round-bounds s (h .placed .checked) f low (is-round not)) in
-      let last = faults-same (ap (roundFaults t) e) (q .put t (omega (arith, face, low)) b) in
-      faults-same (sym (rounds-then t (roundsTo t f) (roundOf t f)) ∙ ap (faultsOfRounds t) (sym (rounds-more t f (is-round not)))) (faults-then p last)
+      let last = flaws-same (ap roundFlaws e) (q .put t (omega (arith, face, low)) b) in
+      flaws-same (sym (rounds-then (roundsTo t f) (roundOf t f)) ∙ ap flawsOfRounds (sym (rounds-more t f (is-round not)))) (flaws-then p last)

@@ -19,12 +19,12 @@ use Rattle.wall_samples.specs.Stored.{Readings}
 use Rattle.wall_samples.proofs.ReadingLaws.{readings-most}
 use Rattle.wall_pairs.specs.Work.{WallsPut}
 use Rattle.wall_pairs.proofs.KeptLaws.{readings-kept}
-use Rattle.fault_row.specs.Faults.{FaultsPut}
-use Rattle.fault_row.proofs.FaultLaws.{faults-then}
-use Rattle.fault_text.specs.Meaning.{faultOf, GoodRow}
+use Rattle.fault_row.specs.Flaws.{FlawsPut}
+use Rattle.fault_row.proofs.FlawLaws.{flaws-then}
+use Rattle.fault_text.specs.Good.{Good}
 use Rattle.rule_corners.specs.Work.{CornersPut}
 use Rattle.rule_corners.specs.Sharp.{sharpCorners}
-use Rattle.rule_machining.specs.Machining.{thinWalls, roundsFaults}
+use Rattle.rule_machining.specs.Machining.{thinWalls, roundsFlaws}
 use Rattle.rule_machining.specs.All.{machining, MachiningPut}
 use Rattle.rule_machining.specs.Work.{Ready, RulePut, WallsFound}
 
@@ -55,7 +55,7 @@ module _ (s : List ℕ) (at : Regions) (words words1 words2 : List ℕ) (reals r
         (outside-wide nan _ _ _ _ reals2 reals3 (omega arith) (omega (arith, laid)) (walls .reals-kept)))
 
     pub walls-found : (m k : ℕ) (cells cells′ : List ℕ) (numbers numbers′ : List Float) → m ≡ length (readingsOf (partOf s)) →
-        FaultsPut (faultOf (partOf s)) (GoodRow (partOf s)) 0 (thinWalls (partOf s)) cells cells′ numbers numbers′ k → k ≤ 0 + length (readingsOf (partOf s)) →
+        FlawsPut (Good (partOf s)) 0 (thinWalls (partOf s)) cells cells′ numbers numbers′ k → k ≤ 0 + length (readingsOf (partOf s)) →
         WallsFound s at words words3 reals reals3 cells cells′ numbers numbers′ (record { readings = m; faults = k })
     walls-found m k cells cells′ numbers numbers′ count put most =
         record {
@@ -73,8 +73,8 @@ module _ (s : List ℕ) (at : Regions) (words words1 words2 : List ℕ) (reals r
 module _ (s : List ℕ) (at : Regions) (words words1 : List ℕ) (reals reals1 : List Float) (h : Ready s at words reals) (standing : Standing s at words1 reals1)
     (w1 : Outside 0 (at .kinds) (at .ranks) words words1) (r1 : Outside nan (at .rounds) (at .free) reals reals1) where
   pub rounds-found : (from k : ℕ) (cells cells′ : List ℕ) (numbers numbers′ : List Float) →
-      FaultsPut (faultOf (partOf s)) (GoodRow (partOf s)) from (roundsFaults (partOf s)) cells cells′ numbers numbers′ k →
-      RulePut roundsFaults s at from words words1 reals reals1 cells cells′ numbers numbers′ k
+      FlawsPut (Good (partOf s)) from (roundsFlaws (partOf s)) cells cells′ numbers numbers′ k →
+      RulePut roundsFlaws s at from words words1 reals reals1 cells cells′ numbers numbers′ k
   rounds-found from k cells cells′ numbers numbers′ put =
       let laid = h .standing .placed .laid in
       record {
@@ -90,7 +90,7 @@ module _ (s : List ℕ) (at : Regions) (words words1 : List ℕ) (reals reals1 :
 -- ---- the corners
 pub corners-found : (s : List ℕ) (at : Regions) (words words1 : List ℕ) (reals reals1 : List Float) (m : ℕ) → Ready s at words reals → CornersPut s at words words1 reals reals1 m →
     (from k : ℕ) (cells cells′ : List ℕ) (numbers numbers′ : List Float) →
-    FaultsPut (faultOf (partOf s)) (GoodRow (partOf s)) from (sharpCorners (partOf s)) cells cells′ numbers numbers′ k →
+    FlawsPut (Good (partOf s)) from (sharpCorners (partOf s)) cells cells′ numbers numbers′ k →
     RulePut sharpCorners s at from words words1 reals reals1 cells cells′ numbers numbers′ k
 corners-found s at words words1 reals reals1 m h corners from k cells cells′ numbers numbers′ put =
     let laid = h .standing .placed .laid in
@@ -103,12 +103,12 @@ corners-found s at words words1 reals reals1 m h corners from k cells cells′ n
 
 -- ---- all of them
 pub all-found : (s : List ℕ) (at : Regions) (w0 w1 w2 w3 : List ℕ) (r0 r1 r2 r3 : List Float) (c0 c1 c2 c3 : List ℕ) (n0 n1 n2 n3 : List Float) (i j k : ℕ) →
-    RulePut thinWalls s at 0 w0 w1 r0 r1 c0 c1 n0 n1 i → RulePut roundsFaults s at i w1 w2 r1 r2 c1 c2 n1 n2 j → RulePut sharpCorners s at j w2 w3 r2 r3 c2 c3 n2 n3 k →
+    RulePut thinWalls s at 0 w0 w1 r0 r1 c0 c1 n0 n1 i → RulePut roundsFlaws s at i w1 w2 r1 r2 c1 c2 n1 n2 j → RulePut sharpCorners s at j w2 w3 r2 r3 c2 c3 n2 n3 k →
     k ≤ 65536 → MachiningPut s at w0 w3 r0 r3 c0 c3 n0 n3 k
 unfolding machining
 all-found s at w0 w1 w2 w3 r0 r1 r2 r3 c0 c1 c2 c3 n0 n1 n2 n3 i j k walls rounds corners few =
     record {
-      put = faults-then (walls .put) (faults-then (rounds .put) (corners .put));
+      put = flaws-then (walls .put) (flaws-then (rounds .put) (corners .put));
       few = few;
       standing = corners .ready .standing;
       ranked = corners .ready .ranked;

@@ -1,6 +1,6 @@
 -- The thin walls: the least of some readings, one wall, and the walk over the walls.
 use mathlib.Core.Path.{_≡_, refl, sym, ap, _∙_, subst}
-use mathlib.Core.Bool.{Bool, true, false, cond}
+use mathlib.Core.Bool.{true, false, cond}
 use mathlib.Core.Logic.{_⊎_, inl, inr}
 use mathlib.Core.List.{List, [], _∷_, _++_, List·Memᴰ, List·Memᴰ·head, List·Memᴰ·tail}
 use Prim.Native.Nat.{ℕ, _+_, _≤_, _<_, _^_}
@@ -15,7 +15,6 @@ use Rattle.num_real.specs.Select.{minOf}
 use Rattle.num_real.proofs.SelectLaws.{min-either}
 use Rattle.num_text.specs.Decimal.{accepted}
 use Rattle.num_text.proofs.NeverRefused.{accepted-at}
-use Rattle.math.specs.Vector.{zero}
 use Rattle.list_laws.specs.Region.{part}
 use Rattle.list_laws.proofs.Regions.{part-length}
 use Rattle.file_part.specs.Part.{Part, partOf}
@@ -31,20 +30,18 @@ use Rattle.wall_pairs.specs.Walls.{leastFrom, leastOf}
 use Rattle.wall_pairs.specs.Work.{readingOrder, WallsOrdered, WallsTo, NextWallIs}
 use Rattle.wall_pairs.proofs.WallLaws.{walls-start, next-wall, walls-end, walls-below}
 use Rattle.measure_sizes.proofs.Readings.{reading-bounds}
+use Rattle.fault_row.specs.declared.fault.Severity.{Severity}
 use Rattle.fault_row.specs.declared.fault.Severity.the-variants.{Error, Warning}
-use Rattle.fault_row.specs.Fault.{Fault}
-use Rattle.fault_row.specs.Names.{severityRank}
-use Rattle.fault_row.specs.Row.{row, RowPut}
-use Rattle.fault_row.specs.Faults.{FaultsPut}
-use Rattle.fault_row.proofs.NameLaws.{severity-rank-lt}
-use Rattle.fault_row.proofs.FaultLaws.{faults-none, faults-one, faults-then, faults-same}
-use Rattle.fault_text.specs.Kind.{thinWall}
+use Rattle.fault_row.specs.declared.flaw.Flaw.{Flaw}
+use Rattle.fault_row.specs.declared.flaw.Flaw.the-variants.{ThinWall}
+use Rattle.fault_row.specs.Row.{RowPut}
+use Rattle.fault_row.specs.Flaw.{rowOf}
+use Rattle.fault_row.specs.Flaws.{FlawsPut}
+use Rattle.fault_row.proofs.FlawLaws.{flaws-none, flaws-one, flaws-then, flaws-same}
 use Rattle.fault_text.specs.Job.{minWall}
-use Rattle.fault_text.specs.Machining.{thinWallFault}
-use Rattle.fault_text.specs.Meaning.{faultOf, GoodRow}
+use Rattle.fault_text.specs.Good.{Good}
 use Rattle.fault_text.proofs.JobLaws.{min-wall-accepted}
-use Rattle.fault_text.proofs.MeaningLaws.{thin-wall-row, thin-wall-printed, good-row}
-use Rattle.rule_machining.specs.Machining.{wallSeverity, wallFault, thinWalls}
+use Rattle.rule_machining.specs.Machining.{wallSeverity, wallFlaw, thinWalls}
 use Rattle.rule_machining.specs.Work.{WallPut}
 
 -- ---- the least of some readings is a number that is printed
@@ -93,47 +90,41 @@ least-accepted s at words reals o i e more to =
     accepted-at (leastOf t l) (2 ^ 17) 2 (x .nonneg) (x .within) (lit< tt) (omega arith)
 
 -- ---- one wall
--- the severity as `severity` gives it
-rank-is : (t : Part) (x wall : Float) (n : ℕ) → n ≡ cond (lt x (mul binary64 half wall)) 0 1 → minWall t ≡ wall → n ≡ severityRank (wallSeverity t x)
-unfolding wallSeverity severityRank
-rank-is t x wall n e w = e ∙ go (lt x (mul binary64 half wall)) ∙ ap (λ (y : Float). severityRank (cond (lt x (mul binary64 half y)) Error Warning)) (sym w)
-  where
-    go : (b : Bool) → _≡_ {A = ℕ} (cond b 0 1) (severityRank (cond b Error Warning))
-    go true = refl
-    go false = refl
+severity-is : (t : Part) (x wall : Float) (v : Severity) → v ≡ cond (lt x (mul binary64 half wall)) Error Warning → minWall t ≡ wall → v ≡ wallSeverity t x
+unfolding wallSeverity
+severity-is t x wall v e w = e ∙ ap (λ (y : Float). cond (lt x (mul binary64 half y)) Error Warning) (sym w)
 
 pub thin-wall-none : {faces : NextWall} {x wall : Float} {from : ℕ} {cells : List ℕ} {numbers : List Float} → lt x wall ≡ false → WallPut faces x wall from cells cells numbers numbers from
-unfolding wallFault
+unfolding wallFlaw
 thin-wall-none {faces} {x} {wall} {from} {cells} {numbers} e =
-    record { few = omega arith; put = λ t w a b p q. faults-same (sym (rw (w, e) refl)) (faults-none from cells numbers) }
+    record { few = omega arith; put = λ t w a b p q. flaws-same (sym (rw (w, e) refl)) (flaws-none from cells numbers) }
 
-pub thin-wall-one : {faces : NextWall} {x wall : Float} {n from r : ℕ} {cells cells′ : List ℕ} {numbers numbers′ : List Float} → lt x wall ≡ true →
-    n ≡ cond (lt x (mul binary64 half wall)) 0 1 → RowPut from (row thinWall n 1 (faces .first) (faces .second) 0 x zero zero) cells cells′ numbers numbers′ r →
+pub thin-wall-one : {faces : NextWall} {x wall : Float} {v : Severity} {from r : ℕ} {cells cells′ : List ℕ} {numbers numbers′ : List Float} → lt x wall ≡ true →
+    v ≡ cond (lt x (mul binary64 half wall)) Error Warning → RowPut from (rowOf (ThinWall v (faces .first) (faces .second) x)) cells cells′ numbers numbers′ r →
     WallPut faces x wall from cells cells′ numbers numbers′ r
-unfolding wallFault
-thin-wall-one {faces} {x} {wall} {n} e s p =
+unfolding wallFlaw Good
+thin-wall-one {faces} {x} {wall} {v} {from} {r} {cells} {cells′} {numbers} {numbers′} e s p =
     record {
       few = omega (arith, p .count);
       put = λ t w a b ok kept.
-          let rank = rank-is t x wall n s w in
-          faults-same (sym (rw (w, e) refl))
-          (faults-one (thinWallFault t (wallSeverity t x) (faces .first) (faces .second) x) p (thin-wall-row t (wallSeverity t x) n (faces .first) (faces .second) x rank)
-          (good-row t thinWall n (faces .first) (faces .second) x zero zero (omega arith) (omega arith) (omega (arith, rank, severity-rank-lt (wallSeverity t x))) a b
-          (thin-wall-printed t n (faces .first) (faces .second) x ok (ap (λ (y : Float). accepted y 2) w ∙ kept))));
+          flaws-same (sym (rw (w, e) refl))
+          (flaws-one (ThinWall (wallSeverity t x) (faces .first) (faces .second) x)
+          (subst (λ (q : Severity). RowPut from (rowOf (ThinWall q (faces .first) (faces .second) x)) cells cells′ numbers numbers′ r) (severity-is t x wall v s w) p)
+          (a, b, ok, ap (λ (y : Float). accepted y 2) w ∙ kept));
     }
 
 -- ---- the walk
-abbrev ofWall : Part → ℕ → ℕ → List ℕ → List Fault
-ofWall t f g l = wallFault t f g (leastOf t l)
+abbrev ofWall : Part → ℕ → ℕ → List ℕ → List Flaw
+ofWall t f g l = wallFlaw t f g (leastOf t l)
 
 -- at place i of the order the faults of the walls before are put
 pub record WallsMet (t : Part) (i from : ℕ) (cells cells′ : List ℕ) (numbers numbers′ : List Float) (k : ℕ) : Type 0 where
-  pub faults : List Fault
-  pub met : WallsTo t (ofWall t) i faults
-  pub put : FaultsPut (faultOf t) (GoodRow t) from faults cells cells′ numbers numbers′ k
+  pub flaws : List Flaw
+  pub met : WallsTo t (ofWall t) i flaws
+  pub put : FlawsPut (Good t) from flaws cells cells′ numbers numbers′ k
 
 pub met-none : (t : Part) (from : ℕ) (cells : List ℕ) (numbers : List Float) → WallsMet t 0 from cells cells numbers numbers from
-met-none t from cells numbers = record { faults = []; met = walls-start t (ofWall t); put = faults-none from cells numbers }
+met-none t from cells numbers = record { flaws = []; met = walls-start t (ofWall t); put = flaws-none from cells numbers }
 
 -- in the words of `put_thin_wall`
 pub wall-room : (s : List ℕ) (at : Regions) (words : List ℕ) (reals : List Float) → WallsOrdered s at words reals → {i from k : ℕ} (faces : NextWall) → from ≤ 65536 → k ≤ from + i →
@@ -155,14 +146,14 @@ met-next s at words reals o {i} faces x wall w is e m p =
     let ok : accepted x 2 ≡ true = ap (λ (y : Float). accepted y 2) e ∙ least-accepted s at words reals o i (faces .end) (is .run .more) (is .run .inside) in
     let kept : accepted wall 2 ≡ true = ap (λ (y : Float). accepted y 2) w ∙ min-wall-accepted s (o .standing .placed .checked) in
     record {
-      faults = m .faults ++ ofWall t (faces .first) (faces .second) (part i (faces .end) (readingOrder at words));
-      met = next-wall s at words reals o i faces is (ofWall t) (m .faults) (m .met);
+      flaws = m .flaws ++ ofWall t (faces .first) (faces .second) (part i (faces .end) (readingOrder at words));
+      met = next-wall s at words reals o i faces is (ofWall t) (m .flaws) (m .met);
       put =
-          faults-then (m .put)
-          (faults-same (ap (wallFault t (faces .first) (faces .second)) e) (p .put t (sym w) (is .first-below) (is .second-below) ok kept));
+          flaws-then (m .put)
+          (flaws-same (ap (wallFlaw t (faces .first) (faces .second)) e) (p .put t (sym w) (is .first-below) (is .second-below) ok kept));
     }
 
 pub met-all : (t : Part) {i from k : ℕ} {cells cells′ : List ℕ} {numbers numbers′ : List Float} → length (readingsOf t) ≤ i → WallsMet t i from cells cells′ numbers numbers′ k →
-    FaultsPut (faultOf t) (GoodRow t) from (thinWalls t) cells cells′ numbers numbers′ k
+    FlawsPut (Good t) from (thinWalls t) cells cells′ numbers numbers′ k
 unfolding thinWalls
-met-all t {i} past m = faults-same (walls-end t (ofWall t) i (m .faults) past (m .met)) (m .put)
+met-all t {i} past m = flaws-same (walls-end t (ofWall t) i (m .flaws) past (m .met)) (m .put)

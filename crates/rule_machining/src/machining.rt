@@ -8,7 +8,7 @@ ghost use Rattle.scratch.specs.Standing.{Standing};
 ghost use Rattle.wall_pairs.specs.Work.{Counted};
 ghost use Rattle.rule_corners.specs.Sharp.{sharpCorners};
 ghost use Rattle.rule_machining.specs.All.{MachiningPut};
-ghost use Rattle.rule_machining.specs.Machining.{roundsFaults};
+ghost use Rattle.rule_machining.specs.Machining.{roundsFlaws};
 ghost use Rattle.rule_machining.specs.Work.{Ready, RulePut, WallsFound};
 use crate::Given;
 use crate::rounds::put_round_faults;
@@ -76,7 +76,7 @@ fn round_rule(
     given: Given,
 ) -> usize
     requires { ⌜ Ready (now file) (given .at) (now words) (now reals) ⌝ ∗ ⌜ Counted (partOf (now file)) (given .counts) ⌝ ∗ ⌜ given .from ≤ 65536 ⌝ }
-    ensures { λ r. ⌜ RulePut roundsFaults (now (file .entry)) (given .at) (given .from) (now (words .entry)) (now (words .exit)) (now (reals .entry)) (now (reals .exit)) (now (cells .entry)) (now (cells .exit)) (now (numbers .entry)) (now (numbers .exit)) r ⌝ ∗ ⌜ r ≤ given .from + 2 * facesOf (partOf (now (file .entry))) ⌝ }
+    ensures { λ r. ⌜ RulePut roundsFlaws (now (file .entry)) (given .at) (given .from) (now (words .entry)) (now (words .exit)) (now (reals .entry)) (now (reals .exit)) (now (cells .entry)) (now (cells .exit)) (now (numbers .entry)) (now (numbers .exit)) r ⌝ ∗ ⌜ r ≤ given .from + 2 * facesOf (partOf (now (file .entry))) ⌝ }
 {
     let at = given.at;
     let counts = given.counts;

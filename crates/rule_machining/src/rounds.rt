@@ -5,20 +5,13 @@ ghost use Rattle.solid_faces.specs.Faces.{facesOf};
 ghost use Rattle.scratch.specs.Standing.{Standing};
 ghost use Rattle.round_all.specs.Kept.{Rounds};
 ghost use Rattle.wall_pairs.specs.Work.{Counted};
-ghost use Rattle.fault_row.specs.Faults.{FaultsPut};
-ghost use Rattle.fault_text.specs.Meaning.{faultOf, GoodRow};
-ghost use Rattle.rule_machining.specs.Machining.{smallHoles, deepHoles, tightRadii, deepCorners, holeFaults, insideFaults, roundFaults, roundsFaults};
+ghost use Rattle.fault_row.specs.Flaws.{FlawsPut};
+ghost use Rattle.fault_text.specs.Good.{Good};
+ghost use Rattle.rule_machining.specs.Machining.{smallHoles, deepHoles, tightRadii, deepCorners, holeFlaws, insideFlaws, roundFlaws, roundsFlaws};
 ghost use Rattle.rule_machining.specs.Work.{RoundPut};
 use crate::Given;
-use fault_row::row::FaultRow;
-use fault_row::row::NOTE;
-use fault_row::row::WARNING;
-use fault_row::row::put_row;
-use fault_text::kind::DEEP_HOLE_MAX;
-use fault_text::kind::DEEP_HOLE_STANDARD;
-use fault_text::kind::DEEP_INSIDE_CORNER;
-use fault_text::kind::SMALL_HOLE;
-use fault_text::kind::TIGHT_INSIDE_RADIUS;
+use fault_row::flaw::Flaw;
+use fault_row::flaw::put_flaw;
 use fault_text::machining::MIN_DRILL;
 use fault_text::machining::MIN_MILL_RADIUS;
 use round_all::round::Round;
@@ -37,18 +30,8 @@ fn put_small_hole(cells: &mut [u32], numbers: &mut [f64], from: usize, round: Ro
 {
     let d = 2.0 * round.radius;
     if d < MIN_DRILL {
-        let row = FaultRow {
-            kind: SMALL_HOLE,
-            severity: WARNING,
-            count: 1,
-            a: round.face as u32,
-            b: 0,
-            waived: 0,
-            x: d,
-            y: 0.0,
-            z: 0.0,
-        };
-        return put_row(cells, numbers, from, row);
+        let flaw = Flaw::SmallHole(round.face as u32, d);
+        return put_flaw(cells, numbers, from, flaw);
     }
     from
 }
@@ -61,32 +44,12 @@ fn put_deep_hole(cells: &mut [u32], numbers: &mut [f64], from: usize, round: Rou
     let d = 2.0 * round.radius;
     let ratio = round.length / d;
     if ratio > MAX_REACH {
-        let row = FaultRow {
-            kind: DEEP_HOLE_MAX,
-            severity: WARNING,
-            count: 1,
-            a: round.face as u32,
-            b: 0,
-            waived: 0,
-            x: ratio,
-            y: d,
-            z: round.length,
-        };
-        return put_row(cells, numbers, from, row);
+        let flaw = Flaw::DeepHoleMax(round.face as u32, ratio, d, round.length);
+        return put_flaw(cells, numbers, from, flaw);
     }
     if ratio > STANDARD_REACH {
-        let row = FaultRow {
-            kind: DEEP_HOLE_STANDARD,
-            severity: NOTE,
-            count: 1,
-            a: round.face as u32,
-            b: 0,
-            waived: 0,
-            x: ratio,
-            y: 0.0,
-            z: 0.0,
-        };
-        return put_row(cells, numbers, from, row);
+        let flaw = Flaw::DeepHoleStandard(round.face as u32, ratio);
+        return put_flaw(cells, numbers, from, flaw);
     }
     from
 }
@@ -97,18 +60,8 @@ fn put_tight_radius(cells: &mut [u32], numbers: &mut [f64], from: usize, round: 
     ensures { λ r. ⌜ RoundPut tightRadii 1 round from (now (cells .entry)) (now (cells .exit)) (now (numbers .entry)) (now (numbers .exit)) r ⌝ }
 {
     if round.radius < MIN_MILL_RADIUS {
-        let row = FaultRow {
-            kind: TIGHT_INSIDE_RADIUS,
-            severity: WARNING,
-            count: 1,
-            a: round.face as u32,
-            b: 0,
-            waived: 0,
-            x: round.radius,
-            y: 0.0,
-            z: 0.0,
-        };
-        return put_row(cells, numbers, from, row);
+        let flaw = Flaw::TightInsideRadius(round.face as u32, round.radius);
+        return put_flaw(cells, numbers, from, flaw);
     }
     from
 }
@@ -120,25 +73,15 @@ fn put_deep_corner(cells: &mut [u32], numbers: &mut [f64], from: usize, round: R
 {
     let ratio = round.length / (2.0 * round.radius);
     if ratio > STANDARD_REACH {
-        let row = FaultRow {
-            kind: DEEP_INSIDE_CORNER,
-            severity: WARNING,
-            count: 1,
-            a: round.face as u32,
-            b: 0,
-            waived: 0,
-            x: ratio,
-            y: round.radius,
-            z: round.length,
-        };
-        return put_row(cells, numbers, from, row);
+        let flaw = Flaw::DeepInsideCorner(round.face as u32, ratio, round.radius, round.length);
+        return put_flaw(cells, numbers, from, flaw);
     }
     from
 }
 
 fn put_hole(cells: &mut [u32], numbers: &mut [f64], from: usize, round: Round) -> usize
     requires { ⌜ from + 1 < 4294967296 ⌝ ∗ ⌜ round .face < 4294967296 ⌝ }
-    ensures { λ r. ⌜ RoundPut holeFaults 2 round from (now (cells .entry)) (now (cells .exit)) (now (numbers .entry)) (now (numbers .exit)) r ⌝ }
+    ensures { λ r. ⌜ RoundPut holeFlaws 2 round from (now (cells .entry)) (now (cells .exit)) (now (numbers .entry)) (now (numbers .exit)) r ⌝ }
 {
     let next = put_small_hole(cells, numbers, from, round);
     put_deep_hole(cells, numbers, next, round)
@@ -146,7 +89,7 @@ fn put_hole(cells: &mut [u32], numbers: &mut [f64], from: usize, round: Round) -
 
 fn put_inside(cells: &mut [u32], numbers: &mut [f64], from: usize, round: Round) -> usize
     requires { ⌜ from + 1 < 4294967296 ⌝ ∗ ⌜ round .face < 4294967296 ⌝ }
-    ensures { λ r. ⌜ RoundPut insideFaults 2 round from (now (cells .entry)) (now (cells .exit)) (now (numbers .entry)) (now (numbers .exit)) r ⌝ }
+    ensures { λ r. ⌜ RoundPut insideFlaws 2 round from (now (cells .entry)) (now (cells .exit)) (now (numbers .entry)) (now (numbers .exit)) r ⌝ }
 {
     let next = put_tight_radius(cells, numbers, from, round);
     put_deep_corner(cells, numbers, next, round)
@@ -154,7 +97,7 @@ fn put_inside(cells: &mut [u32], numbers: &mut [f64], from: usize, round: Round)
 
 fn put_round(cells: &mut [u32], numbers: &mut [f64], from: usize, round: Round) -> usize
     requires { ⌜ from + 1 < 4294967296 ⌝ ∗ ⌜ round .face < 4294967296 ⌝ }
-    ensures { λ r. ⌜ RoundPut roundFaults 2 round from (now (cells .entry)) (now (cells .exit)) (now (numbers .entry)) (now (numbers .exit)) r ⌝ }
+    ensures { λ r. ⌜ RoundPut roundFlaws 2 round from (now (cells .entry)) (now (cells .exit)) (now (numbers .entry)) (now (numbers .exit)) r ⌝ }
 {
     if !round.concave {
         return from;
@@ -176,7 +119,7 @@ pub fn put_round_faults(
 ) -> usize
     requires { ⌜ Standing (now file) (given .at) (now words) (now reals) ⌝ ∗ ⌜ Rounds (partOf (now file)) (given .at) (now words) (now reals) ⌝ }
     requires { ⌜ Counted (partOf (now file)) (given .counts) ⌝ ∗ ⌜ given .from ≤ 65536 ⌝ }
-    ensures { λ r. ⌜ FaultsPut (faultOf (partOf (now (file .entry)))) (GoodRow (partOf (now (file .entry)))) (given .from) (roundsFaults (partOf (now (file .entry)))) (now (cells .entry)) (now (cells .exit)) (now (numbers .entry)) (now (numbers .exit)) r ⌝ ∗ ⌜ r ≤ given .from + 2 * facesOf (partOf (now (file .entry))) ⌝ }
+    ensures { λ r. ⌜ FlawsPut (Good (partOf (now (file .entry)))) (given .from) (roundsFlaws (partOf (now (file .entry)))) (now (cells .entry)) (now (cells .exit)) (now (numbers .entry)) (now (numbers .exit)) r ⌝ ∗ ⌜ r ≤ given .from + 2 * facesOf (partOf (now (file .entry))) ⌝ }
 {
     let at = given.at;
     let n = given.counts.faces;

@@ -8,29 +8,28 @@ ghost use Rattle.file_part.specs.Part.{partOf};
 ghost use Rattle.solid_polygon.specs.Polygon.{half};
 ghost use Rattle.wall_samples.specs.Samples.{readingsOf};
 ghost use Rattle.wall_pairs.specs.Work.{Counted, WallsOrdered};
-ghost use Rattle.fault_row.specs.Faults.{FaultsPut};
-ghost use Rattle.fault_text.specs.Meaning.{faultOf, GoodRow};
+ghost use Rattle.fault_row.specs.declared.fault.Severity.the-variants.{Error, Warning};
+ghost use Rattle.fault_row.specs.Flaws.{FlawsPut};
+ghost use Rattle.fault_text.specs.Good.{Good};
 ghost use Rattle.rule_machining.specs.Machining.{thinWalls};
 ghost use Rattle.rule_machining.specs.Work.{WallPut};
 use crate::Given;
-use fault_row::row::ERROR;
-use fault_row::row::FaultRow;
-use fault_row::row::WARNING;
-use fault_row::row::put_row;
+use fault_row::fault::Severity;
+use fault_row::flaw::Flaw;
+use fault_row::flaw::put_flaw;
 use fault_text::job::min_wall;
-use fault_text::kind::THIN_WALL;
 use wall_pairs::NextWall;
 use wall_pairs::least;
 use wall_pairs::next_wall;
 
 // Thinner than half of what the material needs, a wall can't be made.
-fn severity(x: f64, wall: f64) -> u32
-    ensures { λ r. ⌜ r ≡ cond (lt x (mul binary64 half wall)) 0 1 ⌝ }
+fn severity(x: f64, wall: f64) -> Severity
+    ensures { λ r. ⌜ r ≡ cond (lt x (mul binary64 half wall)) Error Warning ⌝ }
 {
     if x < 0.5 * wall {
-        return ERROR;
+        return Severity::Error;
     }
-    WARNING
+    Severity::Warning
 }
 
 // The wall between two faces, x thick, where walls have to be `wall` thick.
@@ -46,18 +45,13 @@ fn put_thin_wall(
     ensures { λ r. ⌜ WallPut faces x wall from (now (cells .entry)) (now (cells .exit)) (now (numbers .entry)) (now (numbers .exit)) r ⌝ }
 {
     if x < wall {
-        let row = FaultRow {
-            kind: THIN_WALL,
-            severity: severity(x, wall),
-            count: 1,
-            a: faces.first as u32,
-            b: faces.second as u32,
-            waived: 0,
-            x: x,
-            y: 0.0,
-            z: 0.0,
-        };
-        return put_row(cells, numbers, from, row);
+        let flaw = Flaw::ThinWall(
+            severity(x, wall),
+            faces.first as u32,
+            faces.second as u32,
+            x,
+        );
+        return put_flaw(cells, numbers, from, flaw);
     }
     from
 }
@@ -72,7 +66,7 @@ pub fn put_thin_walls(
     given: Given,
 ) -> usize
     requires { ⌜ WallsOrdered (now file) (given .at) (now words) (now reals) ⌝ ∗ ⌜ Counted (partOf (now file)) (given .counts) ⌝ ∗ ⌜ given .from ≤ 65536 ⌝ }
-    ensures { λ r. ⌜ FaultsPut (faultOf (partOf (now (file .entry)))) (GoodRow (partOf (now (file .entry)))) (given .from) (thinWalls (partOf (now (file .entry)))) (now (cells .entry)) (now (cells .exit)) (now (numbers .entry)) (now (numbers .exit)) r ⌝ ∗ ⌜ r ≤ given .from + length (readingsOf (partOf (now (file .entry)))) ⌝ }
+    ensures { λ r. ⌜ FlawsPut (Good (partOf (now (file .entry)))) (given .from) (thinWalls (partOf (now (file .entry)))) (now (cells .entry)) (now (cells .exit)) (now (numbers .entry)) (now (numbers .exit)) r ⌝ ∗ ⌜ r ≤ given .from + length (readingsOf (partOf (now (file .entry)))) ⌝ }
 {
     let at = given.at;
     let counts = given.counts;

@@ -1,17 +1,15 @@
 -- The rule on open keys: what an open key is, in the words of the pairs and with no counting; how many there are; one fault or none.
-use mathlib.Core.Path.{_≡_, refl, sym, ap, _∙_, subst}
+use mathlib.Core.Path.{_≡_, refl, sym, ap, _∙_}
 use mathlib.Core.Bool.{Bool, true, false, cond}
-use mathlib.Core.Logic.{_⊎_, ⊎-elim, inl, inr}
+use mathlib.Core.Logic.{⊎-elim}
 use mathlib.Core.List.{List, [], _∷_}
-use Prim.Native.Nat.{ℕ, suc, _+_, _*_, _^_, _≤_, _<_}
+use Prim.Native.Nat.{ℕ, suc, _+_, _*_, _≤_, _<_}
 use native.Mathlib.Omega.{arith}
 use borrow.Author.Tests.{eq-eqb, ne-eqb, eqb-true}
-use lib.Dec.{T, eqb, le→leb}
-use lib.IntN.{pos}
+use lib.Dec.{eqb}
 use lib.ListN.{length, getD}
-use lib.Ieee.{Float, binary64, ofInt, inFloat}
+use lib.Ieee.{Float}
 use Rattle.num_float.proofs.Tests.{same-test, and-true, and-left, and-right, refuted, lt-or-ge}
-use Rattle.math.specs.Vector.{zero}
 use Rattle.list_laws.specs.Below.{countBelow}
 use Rattle.list_laws.proofs.Count.{count-none, count-more, count-same, count-le, count-less}
 use Rattle.list_laws.proofs.Regions.{part-place}
@@ -25,16 +23,13 @@ use Rattle.solid_faces.specs.Faces.{facesOf}
 use Rattle.scratch.specs.declared.regions.Regions.{Regions}
 use Rattle.scratch.specs.Standing.{Standing}
 use Rattle.scratch.proofs.StandingLaws.{placed-vertices}
-use Rattle.fault_row.specs.Row.{row, RowPut}
-use Rattle.fault_row.specs.Faults.{FaultsPut}
-use Rattle.fault_row.proofs.FaultLaws.{faults-none, faults-one, faults-same}
-use Rattle.fault_text.specs.Kind.{notClosed}
-use Rattle.fault_text.specs.Printing.{notClosedFault}
-use Rattle.fault_text.specs.Meaning.{faultOf, GoodRow}
-use Rattle.fault_text.proofs.MeaningLaws.{good-row}
-use Rattle.fault_text.proofs.PrintingLaws.{not-closed-row, not-closed-printed, whole-accepted}
-use Rattle.rule_printing.specs.Closed as closed
-use Rattle.rule_printing.specs.Closed.{isOpen, openKeys}
+use Rattle.fault_row.specs.declared.flaw.Flaw.the-variants.{NotClosed}
+use Rattle.fault_row.specs.Row.{RowPut}
+use Rattle.fault_row.specs.Flaw.{rowOf}
+use Rattle.fault_row.specs.Flaws.{FlawsPut}
+use Rattle.fault_row.proofs.FlawLaws.{flaws-none, flaws-one, flaws-same}
+use Rattle.fault_text.specs.Good.{Good}
+use Rattle.rule_printing.specs.Closed.{isOpen, openKeys, notClosed}
 use Rattle.rule_printing.specs.Work.{NotClosedPut}
 
 -- ---- what an open key is
@@ -130,32 +125,26 @@ pub keys-end : (s : List ℕ) (at : Regions) {words : List ℕ} {reals : List Fl
 unfolding openKeys
 keys-end s at h eu ek = ek ∙ ap (λ (n : ℕ). countBelow n (isOpen (partOf s))) (eu ∙ placed-vertices s at (h .placed))
 
--- as an f64 it is the number
-pub keys-cast : (n : ℕ) → n ≤ 16384 → T (inFloat binary64 (pos n))
-unfolding inFloat
-keys-cast n h = le→leb n (2 ^ 53) (omega (arith, h))
-
 -- ---- one row or none
 module _ (n : ℕ) where
-  fault-is : (b : Bool) → eqb n 0 ≡ b → cond b [] (notClosedFault n ∷ []) ≡ cond (eqb n 0) [] (notClosedFault n ∷ [])
-  fault-is b e = sym (ap (λ (c : Bool). cond c [] (notClosedFault n ∷ [])) e)
+  flaw-is : (b : Bool) → eqb n 0 ≡ b → cond b [] (NotClosed n ∷ []) ≡ cond (eqb n 0) [] (NotClosed n ∷ [])
+  flaw-is b e = sym (ap (λ (c : Bool). cond c [] (NotClosed n ∷ [])) e)
 
   pub open-none : {cells : List ℕ} {numbers : List Float} → n ≡ 0 → NotClosedPut n cells cells numbers numbers 0
-  open-none {cells} {numbers} e = record { few = omega arith; put = λ t some. faults-same (fault-is true (eq-eqb n 0 e)) (faults-none 0 cells numbers) }
+  open-none {cells} {numbers} e = record { few = omega arith; put = λ t some. flaws-same (flaw-is true (eq-eqb n 0 e)) (flaws-none 0 cells numbers) }
 
   pub open-one : {r : ℕ} {cells cells′ : List ℕ} {numbers numbers′ : List Float} → n ≤ 16384 → (n ≡ 0 → ⊥) →
-      RowPut 0 (row notClosed 0 1 0 0 0 (ofInt binary64 (pos n)) zero zero) cells cells′ numbers numbers′ r → NotClosedPut n cells cells′ numbers numbers′ r
+      RowPut 0 (rowOf (NotClosed n)) cells cells′ numbers numbers′ r → NotClosedPut n cells cells′ numbers numbers′ r
+  unfolding Good
   open-one few e p =
       record {
         few = omega (arith, p .count);
         put = λ t some.
-            faults-same (fault-is false (ne-eqb n 0 e))
-            (faults-one (notClosedFault n) p (not-closed-row t n few)
-            (good-row t notClosed 0 0 0 (ofInt binary64 (pos n)) zero zero (omega arith) (omega arith) (omega arith) some some
-            (not-closed-printed t (ofInt binary64 (pos n)) (whole-accepted n few))));
+            flaws-same (flaw-is false (ne-eqb n 0 e))
+            (flaws-one (NotClosed n) p (some, omega (arith, few)));
       }
 
 pub not-closed-put : (t : Part) → 0 < facesOf t → {n r : ℕ} {cells cells′ : List ℕ} {numbers numbers′ : List Float} → n ≡ openKeys t → NotClosedPut n cells cells′ numbers numbers′ r →
-    FaultsPut (faultOf t) (GoodRow t) 0 (closed.notClosed t) cells cells′ numbers numbers′ r
-unfolding closed.notClosed
-not-closed-put t some e p = faults-same (ap (λ (k : ℕ). cond (eqb k 0) [] (notClosedFault k ∷ [])) e) (p .put t some)
+    FlawsPut (Good t) 0 (notClosed t) cells cells′ numbers numbers′ r
+unfolding notClosed
+not-closed-put t some e p = flaws-same (ap (λ (k : ℕ). cond (eqb k 0) [] (NotClosed k ∷ [])) e) (p .put t some)

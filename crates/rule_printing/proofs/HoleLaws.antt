@@ -10,7 +10,6 @@ use lib.Dec.{lit<}
 use lib.ListN.{length, getD}
 use lib.Ieee.{Float, binary64, add, lt}
 use Rattle.num_text.proofs.NeverRefused.{accepted-at}
-use Rattle.math.specs.Vector.{zero}
 use Rattle.list_groups.specs.Groups.{joined}
 use Rattle.list_groups.proofs.Flat.{joined-suc, joined-none}
 use Rattle.file_job.specs.declared.Job.{Job}
@@ -26,16 +25,14 @@ use Rattle.round_all.proofs.PutLaws.{face-low}
 use Rattle.round_all.proofs.RoundLaws.{kind-at, kind-round, kind-hole}
 use Rattle.measure_sizes.specs.Round.{diameterOf, RoundBounds}
 use Rattle.measure_sizes.proofs.Rounds.{round-bounds}
-use Rattle.fault_row.specs.Fault.{Fault}
-use Rattle.fault_row.specs.Row.{row, RowPut}
-use Rattle.fault_row.specs.Faults.{FaultsPut}
-use Rattle.fault_row.proofs.FaultLaws.{faults-none, faults-one, faults-then, faults-same}
-use Rattle.fault_text.specs.Kind.{printSmallHole}
-use Rattle.fault_text.specs.Printing.{printSmallHoleFault}
-use Rattle.fault_text.specs.Meaning.{faultOf, GoodRow}
+use Rattle.fault_row.specs.declared.flaw.Flaw.{Flaw}
+use Rattle.fault_row.specs.declared.flaw.Flaw.the-variants.{PrintSmallHole}
+use Rattle.fault_row.specs.Row.{RowPut}
+use Rattle.fault_row.specs.Flaw.{rowOf}
+use Rattle.fault_row.specs.Flaws.{FlawsPut}
+use Rattle.fault_row.proofs.FlawLaws.{flaws-none, flaws-one, flaws-then, flaws-same}
+use Rattle.fault_text.specs.Good.{Good}
 use Rattle.fault_text.proofs.SettingsLaws.{print-hole-accepted}
-use Rattle.fault_text.proofs.MeaningLaws.{good-row}
-use Rattle.fault_text.proofs.PrintingLaws.{print-small-hole-row, print-small-hole-printed}
 use Rattle.rule_printing.specs.Rules.{smallHole, printHoles}
 use Rattle.rule_printing.specs.Work.{HolePut}
 
@@ -44,40 +41,39 @@ module _ (hole : Round) (least : Float) where
   abbrev d : Float
   d = diameterOf hole
 
-  fault-is : (t : Part) (b : Bool) → lt (add binary64 d e-9) least ≡ b →
-      cond b (printSmallHoleFault t (hole .face) d ∷ []) [] ≡ cond (lt (add binary64 d e-9) least) (printSmallHoleFault t (hole .face) d ∷ []) []
-  fault-is t b e = sym (ap (λ (c : Bool). cond c (printSmallHoleFault t (hole .face) d ∷ []) []) e)
+  flaw-is : (b : Bool) → lt (add binary64 d e-9) least ≡ b →
+      cond b (PrintSmallHole (hole .face) d ∷ []) [] ≡ cond (lt (add binary64 d e-9) least) (PrintSmallHole (hole .face) d ∷ []) []
+  flaw-is b e = sym (ap (λ (c : Bool). cond c (PrintSmallHole (hole .face) d ∷ []) []) e)
 
   pub hole-none : {from : ℕ} {cells : List ℕ} {numbers : List Float} → lt (add binary64 d e-9) least ≡ false → HolePut hole least from cells cells numbers numbers from
   hole-none {from} {cells} {numbers} e =
-      record { few = omega arith; put = λ s checked is b low. faults-same (fault-is (partOf s) false e) (faults-none from cells numbers) }
+      record { few = omega arith; put = λ s checked is b low. flaws-same (flaw-is false e) (flaws-none from cells numbers) }
 
   pub hole-one : {from r : ℕ} {cells cells′ : List ℕ} {numbers numbers′ : List Float} → lt (add binary64 d e-9) least ≡ true →
-      RowPut from (row printSmallHole 1 1 (hole .face) 0 0 d zero zero) cells cells′ numbers numbers′ r → HolePut hole least from cells cells′ numbers numbers′ r
+      RowPut from (rowOf (PrintSmallHole (hole .face) d)) cells cells′ numbers numbers′ r → HolePut hole least from cells cells′ numbers numbers′ r
+  unfolding Good
   hole-one e p =
       record {
         few = omega (arith, p .count);
         put = λ s checked is b low.
-            faults-same (fault-is (partOf s) true e)
-            (faults-one (printSmallHoleFault (partOf s) (hole .face) d) p (print-small-hole-row (partOf s) (hole .face) d)
-            (good-row (partOf s) printSmallHole 1 (hole .face) 0 d zero zero (omega arith) (omega arith) (omega arith) low (omega (arith, low))
-            (print-small-hole-printed (partOf s) (hole .face) d (accepted-at d 20000 2 (b .diameter-nonneg) (b .diameter-within) (lit< tt) (omega arith))
-            (print-hole-accepted s checked))));
+            flaws-same (flaw-is true e)
+            (flaws-one (PrintSmallHole (hole .face) d) p
+            (low, accepted-at d 20000 2 (b .diameter-nonneg) (b .diameter-within) (lit< tt) (omega arith), print-hole-accepted s checked));
       }
 
 -- ---- one hole after another
 -- the faults of the faces below f are put
 pub record HolesTo (t : Part) (f from : ℕ) (cells cells′ : List ℕ) (numbers numbers′ : List Float) (k : ℕ) : Type 0 where
   pub few : k ≤ from + f
-  pub put : FaultsPut (faultOf t) (GoodRow t) from (joined (smallHole t) f) cells cells′ numbers numbers′ k
+  pub put : FlawsPut (Good t) from (joined (smallHole t) f) cells cells′ numbers numbers′ k
 
 pub holes-start : (t : Part) (from : ℕ) (cells : List ℕ) (numbers : List Float) → HolesTo t 0 from cells cells numbers numbers from
-holes-start t from cells numbers = record { few = omega arith; put = faults-same (sym (joined-none (smallHole t))) (faults-none from cells numbers) }
+holes-start t from cells numbers = record { few = omega arith; put = flaws-same (sym (joined-none (smallHole t))) (flaws-none from cells numbers) }
 
 pub holes-end : (t : Part) {f from k : ℕ} {cells cells′ : List ℕ} {numbers numbers′ : List Float} → f ≡ facesOf t → HolesTo t f from cells cells′ numbers numbers′ k →
-    FaultsPut (faultOf t) (GoodRow t) from (printHoles t) cells cells′ numbers numbers′ k
+    FlawsPut (Good t) from (printHoles t) cells cells′ numbers numbers′ k
 unfolding printHoles
-holes-end t e p = faults-same (ap (joined (smallHole t)) e) (p .put)
+holes-end t e p = flaws-same (ap (joined (smallHole t)) e) (p .put)
 
 -- which faces are holes
 kind-none : (t : Part) (f : ℕ) → (roundKind t f ≡ 3 → ⊥) → (isRound t f && isHole t f) ≡ false
@@ -92,15 +88,15 @@ unfolding roundOf
 round-face t f = refl
 
 module _ (t : Part) (f : ℕ) where
-  abbrev faults-in : Round → List Fault
-  faults-in hole = cond (lt (add binary64 (diameterOf hole) e-9) (t .job .print .«min_hole»)) (printSmallHoleFault t f (diameterOf hole) ∷ []) []
+  abbrev flaws-in : Round → List Flaw
+  flaws-in hole = cond (lt (add binary64 (diameterOf hole) e-9) (t .job .print .«min_hole»)) (PrintSmallHole f (diameterOf hole) ∷ []) []
 
   none-in : (isRound t f && isHole t f) ≡ false → [] ≡ smallHole t f
   unfolding smallHole
-  none-in e = sym (ap (λ (b : Bool). cond b (faults-in (roundOf t f)) []) e)
+  none-in e = sym (ap (λ (b : Bool). cond b (flaws-in (roundOf t f)) []) e)
 
   some-in : isRound t f ≡ true → isHole t f ≡ true → (hole : Round) → hole ≡ roundOf t f → (least : Float) → least ≡ t .job .print .«min_hole» →
-      cond (lt (add binary64 (diameterOf hole) e-9) least) (printSmallHoleFault t (hole .face) (diameterOf hole) ∷ []) [] ≡ smallHole t f
+      cond (lt (add binary64 (diameterOf hole) e-9) least) (PrintSmallHole (hole .face) (diameterOf hole) ∷ []) [] ≡ smallHole t f
   unfolding smallHole
   some-in r h hole e least el = rw (el, e, round-face, r, h) refl
 
@@ -147,8 +143,8 @@ module _ (s : List ℕ) (at : Regions) (words : List ℕ) (reals : List Float) (
           let one = q .put s (stands .placed .checked) el bounds (omega (arith, face-is, low)) in
           record {
             few = omega (arith, p .few, q .few);
-            put = faults-same (sym (joined-suc (smallHole (partOf s)) f) ∙ ap (joined (smallHole (partOf s))) (sym (add-one f)))
-                (faults-then (p .put) (faults-same (some-in (partOf s) f hole-round hole-whole hole e (job .print .«min_hole») el) one));
+            put = flaws-same (sym (joined-suc (smallHole (partOf s)) f) ∙ ap (joined (smallHole (partOf s))) (sym (add-one f)))
+                (flaws-then (p .put) (flaws-same (some-in (partOf s) f hole-round hole-whole hole e (job .print .«min_hole») el) one));
           }
 
   -- a face that is none
@@ -158,8 +154,8 @@ module _ (s : List ℕ) (at : Regions) (words : List ℕ) (reals : List Float) (
       let none = none-in (partOf s) f (kind-none (partOf s) f (λ e. unlike (kind-is ∙ e))) in
       record {
         few = omega (arith, p .few);
-        put = faults-same
-            (sym (append-nil (joined (smallHole (partOf s)) f)) ∙ ap (λ (x : List Fault). joined (smallHole (partOf s)) f ++ x) none
+        put = flaws-same
+            (sym (append-nil (joined (smallHole (partOf s)) f)) ∙ ap (λ (x : List Flaw). joined (smallHole (partOf s)) f ++ x) none
             ∙ sym (joined-suc (smallHole (partOf s)) f) ∙ ap (joined (smallHole (partOf s))) (sym (add-one f)))
             (p .put);
       }

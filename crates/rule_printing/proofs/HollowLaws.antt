@@ -18,7 +18,6 @@ use Rattle.num_float.proofs.NonNegative.{nonneg-plus, nonneg-not-lt}
 use Rattle.num_float.proofs.Order.{lt-trans}
 use Rattle.num_text.specs.Decimal.{accepted}
 use Rattle.num_text.proofs.NeverRefused.{accepted-at}
-use Rattle.math.specs.Vector.{zero}
 use Rattle.list_laws.proofs.Regions.{part-place}
 use Rattle.list_groups.specs.Groups.{joined}
 use Rattle.list_groups.proofs.Flat.{joined-suc, joined-none}
@@ -36,17 +35,15 @@ use Rattle.scratch.specs.Standing.{Standing}
 use Rattle.scratch.proofs.StandingLaws.{placed-polygons}
 use Rattle.wall_ray.specs.Strike.{e-9}
 use Rattle.measure_sizes.proofs.Volumes.{volume-within}
-use Rattle.fault_row.specs.Fault.{Fault}
-use Rattle.fault_row.specs.Row.{row, RowPut}
-use Rattle.fault_row.specs.Faults.{FaultsPut}
-use Rattle.fault_row.proofs.FaultLaws.{faults-none, faults-one, faults-then, faults-same}
-use Rattle.fault_text.specs.Kind.{enclosedHollowSla, enclosedHollowSls}
-use Rattle.fault_text.specs.Printing.{enclosedHollowSlaFault, enclosedHollowSlsFault}
-use Rattle.fault_text.specs.Many.{hollowFaces}
-use Rattle.fault_text.specs.Meaning.{faultOf, placesOf, GoodRow}
-use Rattle.fault_text.proofs.MeaningLaws.{good-row-at}
-use Rattle.fault_text.proofs.PrintingLaws.{enclosed-hollow-sla-row, enclosed-hollow-sls-row, enclosed-hollow-sla-printed, enclosed-hollow-sls-printed}
-use Rattle.rule_printing.specs.Rules.{isHollow, isSls, hollowFault, hollows, trapsHollows}
+use Rattle.fault_row.specs.declared.flaw.Flaw.{Flaw}
+use Rattle.fault_row.specs.declared.flaw.Flaw.the-variants.{EnclosedHollowSla, EnclosedHollowSls}
+use Rattle.fault_row.specs.Row.{RowPut}
+use Rattle.fault_row.specs.Flaw.{rowOf}
+use Rattle.fault_row.specs.Flaws.{FlawsPut}
+use Rattle.fault_row.proofs.RowLaws.{row-put-same}
+use Rattle.fault_row.proofs.FlawLaws.{flaws-none, flaws-one, flaws-then, flaws-same}
+use Rattle.fault_text.specs.Good.{Good}
+use Rattle.rule_printing.specs.Rules.{isHollow, isSls, hollowFlaw, hollows, trapsHollows}
 use Rattle.rule_printing.specs.Work.{HollowPut}
 
 -- ---- the process, by its place among the variants
@@ -110,74 +107,72 @@ volume-printed v w h =
 
 -- ---- one body
 module _ (t : Part) (b : ℕ) (v : Float) (is : v ≡ volumeOf t b) where
-  hollow-is : (sls hollow : Bool) → lt v (neg e-9) ≡ hollow → cond hollow (hollowFault t sls b ∷ []) [] ≡ cond (isHollow t b) (hollowFault t sls b ∷ []) []
+  hollow-is : (sls hollow : Bool) → lt v (neg e-9) ≡ hollow → cond hollow (hollowFlaw t sls b ∷ []) [] ≡ cond (isHollow t b) (hollowFlaw t sls b ∷ []) []
   unfolding isHollow
-  hollow-is sls hollow e = ap (λ (c : Bool). cond c (hollowFault t sls b ∷ []) []) (sym e ∙ ap (λ (x : Float). lt x (neg e-9)) is)
+  hollow-is sls hollow e = ap (λ (c : Bool). cond c (hollowFlaw t sls b ∷ []) []) (sym e ∙ ap (λ (x : Float). lt x (neg e-9)) is)
 
-  sls-row : faultOf t (row enclosedHollowSls 0 1 b 0 0 (neg v) zero zero) ≡ hollowFault t true b
-  unfolding hollowFault
-  sls-row = enclosed-hollow-sls-row t b (neg v) ∙ ap (λ (x : Float). enclosedHollowSlsFault (hollowFaces t b) (neg x)) is
+  sls-is : EnclosedHollowSls b (neg v) ≡ hollowFlaw t true b
+  unfolding hollowFlaw
+  sls-is = ap (λ (x : Float). EnclosedHollowSls b (neg x)) is
 
-  sla-row : faultOf t (row enclosedHollowSla 1 1 b 0 0 (neg v) zero zero) ≡ hollowFault t false b
-  unfolding hollowFault
-  sla-row = enclosed-hollow-sla-row t b (neg v) ∙ ap (λ (x : Float). enclosedHollowSlaFault (hollowFaces t b) (neg x)) is
+  sla-is : EnclosedHollowSla b (neg v) ≡ hollowFlaw t false b
+  unfolding hollowFlaw
+  sla-is = ap (λ (x : Float). EnclosedHollowSla b (neg x)) is
 
 module _ (s : List ℕ) (checked : Checked s) (b : ℕ) (v : Float) (is : v ≡ volumeOf (partOf s) b) (low : b < partOf s .polygons) (some : 0 < facesOf (partOf s)) (e : lt v (neg e-9) ≡ true) where
   printed : accepted (neg v) 1 ≡ true
   printed = volume-printed v (subst (λ (x : Float). Within x (2 ^ 58)) (sym is) (volume-within s (checked-readable s checked) b)) e
 
-  sls-good : GoodRow (partOf s) (row enclosedHollowSls 0 1 b 0 0 (neg v) zero zero)
-  unfolding placesOf
-  sls-good =
-      good-row-at (partOf s) enclosedHollowSls 0 1 b 0 (neg v) zero zero (omega arith) (omega arith) (omega arith) (omega arith) (omega arith) low some
-      (enclosed-hollow-sls-printed (partOf s) b (neg v) printed)
+  sls-good : Good (partOf s) (EnclosedHollowSls b (neg v))
+  unfolding Good
+  sls-good = (some, low, printed)
 
-  sla-good : GoodRow (partOf s) (row enclosedHollowSla 1 1 b 0 0 (neg v) zero zero)
-  unfolding placesOf
-  sla-good =
-      good-row-at (partOf s) enclosedHollowSla 1 1 b 0 (neg v) zero zero (omega arith) (omega arith) (omega arith) (omega arith) (omega arith) low some
-      (enclosed-hollow-sla-printed (partOf s) b (neg v) printed)
+  sla-good : Good (partOf s) (EnclosedHollowSla b (neg v))
+  unfolding Good
+  sla-good = (some, low, printed)
 
 module _ {b : ℕ} {v : Float} {from : ℕ} where
   pub hollow-none : (sls : Bool) {cells : List ℕ} {numbers : List Float} → not (lt v (neg e-9)) ≡ true → HollowPut sls b v from cells cells numbers numbers from
   hollow-none sls {cells} {numbers} e =
-      record { few = omega arith; put = λ s checked is low some. faults-same (hollow-is (partOf s) b v is sls false (not-true (lt v (neg e-9)) e)) (faults-none from cells numbers) }
+      record { few = omega arith; put = λ s checked is low some. flaws-same (hollow-is (partOf s) b v is sls false (not-true (lt v (neg e-9)) e)) (flaws-none from cells numbers) }
 
   module _ {r : ℕ} {cells cells′ : List ℕ} {numbers numbers′ : List Float} (e : not (lt v (neg e-9)) ≡ false) where
-    pub hollow-sls : (sls : Bool) → sls ≡ true → RowPut from (row enclosedHollowSls 0 1 b 0 0 (neg v) zero zero) cells cells′ numbers numbers′ r → HollowPut sls b v from cells cells′ numbers numbers′ r
+    pub hollow-sls : (sls : Bool) → sls ≡ true → RowPut from (rowOf (EnclosedHollowSls b (neg v))) cells cells′ numbers numbers′ r → HollowPut sls b v from cells cells′ numbers numbers′ r
     hollow-sls sls es p = subst (λ (x : Bool). HollowPut x b v from cells cells′ numbers numbers′ r) (sym es)
         (record {
           few = omega (arith, p .count);
           put = λ s checked is low some.
-              faults-same (hollow-is (partOf s) b v is true true (not-false (lt v (neg e-9)) e))
-              (faults-one (hollowFault (partOf s) true b) p (sls-row (partOf s) b v is) (sls-good s checked b v is low some (not-false (lt v (neg e-9)) e)));
+              flaws-same (hollow-is (partOf s) b v is true true (not-false (lt v (neg e-9)) e))
+              (flaws-one (hollowFlaw (partOf s) true b) (row-put-same (ap rowOf (sls-is (partOf s) b v is)) p)
+              (subst (Good (partOf s)) (sls-is (partOf s) b v is) (sls-good s checked b v is low some (not-false (lt v (neg e-9)) e))));
         })
 
-    pub hollow-sla : (sls : Bool) → sls ≡ false → RowPut from (row enclosedHollowSla 1 1 b 0 0 (neg v) zero zero) cells cells′ numbers numbers′ r → HollowPut sls b v from cells cells′ numbers numbers′ r
+    pub hollow-sla : (sls : Bool) → sls ≡ false → RowPut from (rowOf (EnclosedHollowSla b (neg v))) cells cells′ numbers numbers′ r → HollowPut sls b v from cells cells′ numbers numbers′ r
     hollow-sla sls es p = subst (λ (x : Bool). HollowPut x b v from cells cells′ numbers numbers′ r) (sym es)
         (record {
           few = omega (arith, p .count);
           put = λ s checked is low some.
-              faults-same (hollow-is (partOf s) b v is false true (not-false (lt v (neg e-9)) e))
-              (faults-one (hollowFault (partOf s) false b) p (sla-row (partOf s) b v is) (sla-good s checked b v is low some (not-false (lt v (neg e-9)) e)));
+              flaws-same (hollow-is (partOf s) b v is false true (not-false (lt v (neg e-9)) e))
+              (flaws-one (hollowFlaw (partOf s) false b) (row-put-same (ap rowOf (sla-is (partOf s) b v is)) p)
+              (subst (Good (partOf s)) (sla-is (partOf s) b v is) (sla-good s checked b v is low some (not-false (lt v (neg e-9)) e))));
         })
 
 -- ---- one body after another
-abbrev hollowAt : Part → ℕ → List Fault
-hollowAt t = λ b. cond (isHollow t b) (hollowFault t (isSls (t .job .process)) b ∷ []) []
+abbrev hollowAt : Part → ℕ → List Flaw
+hollowAt t = λ b. cond (isHollow t b) (hollowFlaw t (isSls (t .job .process)) b ∷ []) []
 
 -- the faults of the bodies below b are put
 pub record HollowsTo (t : Part) (b from : ℕ) (cells cells′ : List ℕ) (numbers numbers′ : List Float) (k : ℕ) : Type 0 where
   pub few : k ≤ from + b
-  pub put : FaultsPut (faultOf t) (GoodRow t) from (joined (hollowAt t) b) cells cells′ numbers numbers′ k
+  pub put : FlawsPut (Good t) from (joined (hollowAt t) b) cells cells′ numbers numbers′ k
 
 pub hollows-start : (t : Part) (from : ℕ) (cells : List ℕ) (numbers : List Float) → HollowsTo t 0 from cells cells numbers numbers from
-hollows-start t from cells numbers = record { few = omega arith; put = faults-same (sym (joined-none (hollowAt t))) (faults-none from cells numbers) }
+hollows-start t from cells numbers = record { few = omega arith; put = flaws-same (sym (joined-none (hollowAt t))) (flaws-none from cells numbers) }
 
 pub hollows-end : (t : Part) {b from k : ℕ} {cells cells′ : List ℕ} {numbers numbers′ : List Float} → b ≡ t .polygons → HollowsTo t b from cells cells′ numbers numbers′ k →
-    FaultsPut (faultOf t) (GoodRow t) from (hollows t) cells cells′ numbers numbers′ k
+    FlawsPut (Good t) from (hollows t) cells cells′ numbers numbers′ k
 unfolding hollows
-hollows-end t e p = faults-same (ap (joined (hollowAt t)) e) (p .put)
+hollows-end t e p = flaws-same (ap (joined (hollowAt t)) e) (p .put)
 
 module _ (s : List ℕ) (at : Regions) (words : List ℕ) (reals : List Float) (stands : Standing s at words reals) (b : ℕ) (low : b < at .polygons) where
   small : at .volumes + b < 1048576
@@ -209,7 +204,7 @@ module _ (s : List ℕ) (at : Regions) (words : List ℕ) (reals : List Float) (
       let some : 0 < facesOf (partOf s) = omega (arith, number-below (partOf s) b there) in
       record {
         few = omega (arith, p .few, q .few);
-        put = faults-same (sym (joined-suc (hollowAt (partOf s)) b) ∙ ap (joined (hollowAt (partOf s))) (sym (add-one b)))
-            (faults-then (p .put)
-            (faults-same (ap (λ (x : Bool). cond (isHollow (partOf s) b) (hollowFault (partOf s) x b ∷ []) []) (es ∙ ap (λ (j : Job). isSls (j .process)) ej)) (q .put s (stands .placed .checked) (volume-at on) there some)));
+        put = flaws-same (sym (joined-suc (hollowAt (partOf s)) b) ∙ ap (joined (hollowAt (partOf s))) (sym (add-one b)))
+            (flaws-then (p .put)
+            (flaws-same (ap (λ (x : Bool). cond (isHollow (partOf s) b) (hollowFlaw (partOf s) x b ∷ []) []) (es ∙ ap (λ (j : Job). isSls (j .process)) ej)) (q .put s (stands .placed .checked) (volume-at on) there some)));
       }

@@ -33,12 +33,11 @@ use Rattle.print_overhang.specs.Overhang.{leanOf, overhangCount, overhangArea}
 use Rattle.print_overhang.specs.Kept.{Marks, OverhangsPut}
 use Rattle.print_overhang.proofs.SizeLaws.{overhang-few}
 use Rattle.fault_row.specs.declared.summary.Summary.{Summary}
-use Rattle.fault_row.specs.Faults.{FaultsPut}
+use Rattle.fault_row.specs.declared.flaw.Flaw.the-variants as flaw
+use Rattle.fault_row.specs.Flaws.{FlawsPut}
 use Rattle.fault_row.specs.Summary.{printSummary}
-use Rattle.fault_row.proofs.FaultLaws.{faults-none, faults-then, faults-same}
-use Rattle.fault_text.specs.Printing.{overhangFault}
-use Rattle.fault_text.specs.Many.{overhangFaces}
-use Rattle.fault_text.specs.Meaning.{faultOf, GoodRow}
+use Rattle.fault_row.proofs.FlawLaws.{flaws-none, flaws-then, flaws-same}
+use Rattle.fault_text.specs.Good.{Good}
 use Rattle.rule_printing.specs.declared.printing.Upright.{Upright}
 use Rattle.rule_printing.specs.Closed.{notClosed}
 use Rattle.rule_printing.specs.Rules.{printHoles, overhangs, hollows, trapsHollows}
@@ -83,7 +82,7 @@ module _ (s : List ℕ) (at : Regions) (w0 w1 w2 : List ℕ) (r0 r1 r2 : List Fl
         (outside-wide nan _ _ _ _ r2 r3 (omega arith) (omega (arith, laid)) (walls .reals-kept)))
 
     pub walls-found : {from k : ℕ} {cells cells′ : List ℕ} {numbers numbers′ : List Float} →
-        FaultsPut (faultOf (partOf s)) (GoodRow (partOf s)) from (printWalls (partOf s)) cells cells′ numbers numbers′ k → k ≤ from + length (readingsOf (partOf s)) →
+        FlawsPut (Good (partOf s)) from (printWalls (partOf s)) cells cells′ numbers numbers′ k → k ≤ from + length (readingsOf (partOf s)) →
         RulePut printWalls 4096 s at from w0 w3 r0 r3 cells cells′ numbers numbers′ k
     walls-found put most =
         record {
@@ -97,7 +96,7 @@ module _ (s : List ℕ) (at : Regions) (w0 w1 w2 : List ℕ) (r0 r1 r2 : List Fl
 -- ---- the rounds
 pub holes-found : (s : List ℕ) (at : Regions) {w w′ : List ℕ} {r r′ : List Float} → Ready s at w r → Standing s at w′ r′ → Outside 0 (at .kinds) (at .ranks) w w′ →
     Outside nan (at .rounds) (at .free) r r′ → {from k : ℕ} {cells cells′ : List ℕ} {numbers numbers′ : List Float} →
-    FaultsPut (faultOf (partOf s)) (GoodRow (partOf s)) from (printHoles (partOf s)) cells cells′ numbers numbers′ k → k ≤ from + 1024 →
+    FlawsPut (Good (partOf s)) from (printHoles (partOf s)) cells cells′ numbers numbers′ k → k ≤ from + 1024 →
     RulePut printHoles 1024 s at from w w′ r r′ cells cells′ numbers numbers′ k
 holes-found s at {w} {w′} {r} {r′} h standing words reals put few =
     let laid = h .standing .placed .laid in
@@ -114,12 +113,12 @@ abbrev Limited : Part → Bool
 Limited t = t .job .print .«has_overhang»
 
 over-is : (t : Part) (count : ℕ) (area : Float) → Limited t ≡ true → count ≡ overhangCount t (leanOf t) → area ≡ overhangArea t (leanOf t) →
-    cond (eqb count 0) [] (overhangFault t count (overhangFaces t) area ∷ []) ≡ overhangs t
+    cond (eqb count 0) [] (flaw.Overhang count area ∷ []) ≡ overhangs t
 unfolding overhangs
 over-is t count area on ec ea =
-    ap₂ (λ (k : ℕ) (x : Float). cond (eqb k 0) [] (overhangFault t k (overhangFaces t) x ∷ [])) ec ea
+    ap₂ (λ (k : ℕ) (x : Float). cond (eqb k 0) [] (flaw.Overhang k x ∷ [])) ec ea
     ∙ sym (ap (λ (b : Bool). cond b
-    (cond (eqb (overhangCount t (leanOf t)) 0) [] (overhangFault t (overhangCount t (leanOf t)) (overhangFaces t) (overhangArea t (leanOf t)) ∷ [])) []) on)
+    (cond (eqb (overhangCount t (leanOf t)) 0) [] (flaw.Overhang (overhangCount t (leanOf t)) (overhangArea t (leanOf t)) ∷ [])) []) on)
 
 module _ (s : List ℕ) (at : Regions) {w : List ℕ} {r : List Float} (h : Ready s at w r) (job : Job) (is : job ≡ partOf s .job) where
   abbrev t : Part
@@ -136,7 +135,7 @@ module _ (s : List ℕ) (at : Regions) {w : List ℕ} {r : List Float} (h : Read
       let none : [] ≡ overhangs t = unfold overhangs in rw off refl in (
         record {
           ready = h;
-          put = faults-same none (faults-none from cells numbers);
+          put = flaws-same none (flaws-none from cells numbers);
           few = omega arith;
           words-kept = outside-none 0 (at .items) (at .words) w;
           reals-kept = outside-none nan (at .falling) (at .free) r;
@@ -163,16 +162,16 @@ module _ (s : List ℕ) (at : Regions) {w : List ℕ} {r : List Float} (h : Read
     pub over-reals : Outside nan (at .falling) (at .free) r r′
     over-reals = outside-wide nan _ _ _ _ r r′ (omega arith) (omega (arith, laid-at)) (over .reals-kept)
 
-    over-faults : {from k : ℕ} {cells cells′ : List ℕ} {numbers numbers′ : List Float} → 0 < facesOf t → OverhangPut found from cells cells′ numbers numbers′ k →
-        FaultsPut (faultOf t) (GoodRow t) from (cond (eqb (found .count) 0) [] (overhangFault t (found .count) (overhangFaces t) (found .area) ∷ [])) cells cells′ numbers numbers′ k
-    over-faults some p = p .put s (h .standing .placed .checked) (there .count) (there .area) some
+    over-flaws : {from k : ℕ} {cells cells′ : List ℕ} {numbers numbers′ : List Float} → 0 < facesOf t → OverhangPut found from cells cells′ numbers numbers′ k →
+        FlawsPut (Good t) from (cond (eqb (found .count) 0) [] (flaw.Overhang (found .count) (found .area) ∷ [])) cells cells′ numbers numbers′ k
+    over-flaws some p = p .put s (h .standing .placed .checked) (there .count) (there .area) some
 
     pub over-cells : {from k : ℕ} {cells cells′ : List ℕ} {numbers numbers′ : List Float} → 0 < facesOf t → OverhangPut found from cells cells′ numbers numbers′ k → length cells′ ≡ length cells
-    over-cells some p = over-faults some p .cells-kept .long
+    over-cells some p = over-flaws some p .cells-kept .long
 
     pub over-numbers : {from k : ℕ} {cells cells′ : List ℕ} {numbers numbers′ : List Float} → 0 < facesOf t → OverhangPut found from cells cells′ numbers numbers′ k →
         length numbers′ ≡ length numbers
-    over-numbers some p = over-faults some p .numbers-kept .long
+    over-numbers some p = over-flaws some p .numbers-kept .long
 
     pub overhang-found : {from k : ℕ} {cells cells′ : List ℕ} {numbers numbers′ : List Float} → not (job .print .«has_overhang») ≡ false → 0 < facesOf t →
         OverhangPut found from cells cells′ numbers numbers′ k →
@@ -184,7 +183,7 @@ module _ (s : List ℕ) (at : Regions) {w : List ℕ} {r : List Float} (h : Read
               standing = only-standing s at w w′ r r′ (sorts-only at w w′ r r′ laid-at (over .words-kept) (over .reals-kept)) (h .standing);
               ranked = ranked-kept (partOf s) at w w′ (λ f l. over .words-kept .above (at .ranks + f) (omega (arith, laid-at))) (h .ranked);
             };
-            put = faults-same (over-is t (found .count) (found .area) on (there .count) (there .area)) (over-faults some p);
+            put = flaws-same (over-is t (found .count) (found .area) on (there .count) (there .area)) (over-flaws some p);
             few = p .few;
             words-kept = over-words;
             reals-kept = over-reals;
@@ -202,13 +201,13 @@ module _ (t : Part) (job : Job) (is : job ≡ t .job) (traps : Bool) (et : traps
   traps-is e = sym (ap (λ (j : Job). trapsHollows (j .process)) is) ∙ sym et ∙ not-false traps e
 
   pub hollows-quiet : {from : ℕ} {cells : List ℕ} {numbers : List Float} → not traps ≡ true →
-      FaultsPut (faultOf t) (GoodRow t) from (cond (trapsHollows (t .job .process)) (hollows t) []) cells cells numbers numbers from × (from ≤ from + 4096)
-  hollows-quiet {from} {cells} {numbers} e = (faults-same (trap false (not-true traps e)) (faults-none from cells numbers), omega arith)
+      FlawsPut (Good t) from (cond (trapsHollows (t .job .process)) (hollows t) []) cells cells numbers numbers from × (from ≤ from + 4096)
+  hollows-quiet {from} {cells} {numbers} e = (flaws-same (trap false (not-true traps e)) (flaws-none from cells numbers), omega arith)
 
   pub hollows-found : {from k : ℕ} {cells cells′ : List ℕ} {numbers numbers′ : List Float} → not traps ≡ false →
-      FaultsPut (faultOf t) (GoodRow t) from (hollows t) cells cells′ numbers numbers′ k →
-      FaultsPut (faultOf t) (GoodRow t) from (cond (trapsHollows (t .job .process)) (hollows t) []) cells cells′ numbers numbers′ k
-  hollows-found e p = faults-same (trap true (not-false traps e)) p
+      FlawsPut (Good t) from (hollows t) cells cells′ numbers numbers′ k →
+      FlawsPut (Good t) from (cond (trapsHollows (t .job .process)) (hollows t) []) cells cells′ numbers numbers′ k
+  hollows-found e p = flaws-same (trap true (not-false traps e)) p
 
 -- ---- all of them
 module _ (s : List ℕ) (at : Regions) {w0 w1 w2 w3 : List ℕ} {r0 r1 r2 r3 : List Float} {c0 c1 c2 c3 : List ℕ} {n0 n1 n2 n3 : List Float} {h i j k : ℕ}
@@ -220,11 +219,11 @@ module _ (s : List ℕ) (at : Regions) {w0 w1 w2 w3 : List ℕ} {r0 r1 r2 r3 : L
   pub reals-all : Outside nan (at .falling) (at .free) r0 r3
   reals-all = outside-then nan _ _ r0 r1 r3 (walls .reals-kept) (outside-then nan _ _ r1 r2 r3 (holes .reals-kept) (over .reals-kept))
 
-  module _ {c c4 : List ℕ} {n n4 : List Float} {m : ℕ} (closed : FaultsPut (faultOf (partOf s)) (GoodRow (partOf s)) 0 (notClosed (partOf s)) c c0 n n0 h)
-      (hollow : FaultsPut (faultOf (partOf s)) (GoodRow (partOf s)) k (cond (trapsHollows (partOf s .job .process)) (hollows (partOf s)) []) c3 c4 n3 n4 m) where
-    put-all : FaultsPut (faultOf (partOf s)) (GoodRow (partOf s)) 0 (printing (partOf s)) c c4 n n4 m
+  module _ {c c4 : List ℕ} {n n4 : List Float} {m : ℕ} (closed : FlawsPut (Good (partOf s)) 0 (notClosed (partOf s)) c c0 n n0 h)
+      (hollow : FlawsPut (Good (partOf s)) k (cond (trapsHollows (partOf s .job .process)) (hollows (partOf s)) []) c3 c4 n3 n4 m) where
+    put-all : FlawsPut (Good (partOf s)) 0 (printing (partOf s)) c c4 n n4 m
     unfolding printing
-    put-all = faults-then closed (faults-then (walls .put) (faults-then (holes .put) (faults-then (over .put) hollow)))
+    put-all = flaws-then closed (flaws-then (walls .put) (flaws-then (holes .put) (flaws-then (over .put) hollow)))
 
     pub cells-all : length c4 ≡ length c
     cells-all = put-all .cells-kept .long

@@ -8,8 +8,8 @@ use lib.Dec.{eqb}
 use Rattle.list_laws.specs.Below.{countBelow}
 use Rattle.file_part.specs.Part.{Part}
 use Rattle.solid_segments.specs.Sides.{live, sameSide}
-use Rattle.fault_row.specs.Fault.{Fault}
-use Rattle.fault_text.specs.Printing.{notClosedFault}
+use Rattle.fault_row.specs.declared.flaw.Flaw.{Flaw}
+use Rattle.fault_row.specs.declared.flaw.Flaw.the-variants.{NotClosed}
 
 -- the key of side s is open: the two end keys of s differ, and of all sides one has its key (`open-alone`, `alone-open`: s alone)
 unfoldable pub isOpen : Part → ℕ → Bool
@@ -20,5 +20,5 @@ unfoldable pub openKeys : Part → ℕ
 openKeys t = countBelow (t .vertices) (isOpen t)
 
 -- "If there are any, an Error 'Not closed' is the first fault, with no faces, count 1 and the Rust's message with their number."
-unfoldable pub notClosed : Part → List Fault
-notClosed t = cond (eqb (openKeys t) 0) [] (notClosedFault (openKeys t) ∷ [])
+unfoldable pub notClosed : Part → List Flaw
+notClosed t = cond (eqb (openKeys t) 0) [] (NotClosed (openKeys t) ∷ [])

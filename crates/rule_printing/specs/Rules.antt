@@ -14,25 +14,24 @@ use Rattle.wall_ray.specs.Strike.{e-9}
 use Rattle.round_all.specs.Round.{isRound, isHole, roundOf}
 use Rattle.measure_sizes.specs.Round.{diameterOf}
 use Rattle.print_overhang.specs.Overhang.{leanOf, overhangCount, overhangArea}
-use Rattle.fault_row.specs.Fault.{Fault}
-use Rattle.fault_text.specs.Printing.{printSmallHoleFault, overhangFault, enclosedHollowSlaFault, enclosedHollowSlsFault}
-use Rattle.fault_text.specs.Many.{overhangFaces, hollowFaces}
+use Rattle.fault_row.specs.declared.flaw.Flaw.{Flaw}
+use Rattle.fault_row.specs.declared.flaw.Flaw.the-variants.{PrintSmallHole, Overhang, EnclosedHollowSla, EnclosedHollowSls}
 
 -- ---- `Small hole`: `if d + 1e-9 < print.min_hole`, of face f where it is a hole
-unfoldable pub smallHole : Part → ℕ → List Fault
+unfoldable pub smallHole : Part → ℕ → List Flaw
 smallHole t f =
     cond (isRound t f && isHole t f)
-    (cond (lt (add binary64 (diameterOf (roundOf t f)) e-9) (t .job .print .«min_hole»)) (printSmallHoleFault t f (diameterOf (roundOf t f)) ∷ []) []) []
+    (cond (lt (add binary64 (diameterOf (roundOf t f)) e-9) (t .job .print .«min_hole»)) (PrintSmallHole f (diameterOf (roundOf t f)) ∷ []) []) []
 
 -- `for h in &holes`
-unfoldable pub printHoles : Part → List Fault
+unfoldable pub printHoles : Part → List Flaw
 printHoles t = joined (smallHole t) (facesOf t)
 
--- ---- `Overhang`: `if let Some(limit) = print.overhang`, `if !faces.is_empty()`: one fault of all faces
-unfoldable pub overhangs : Part → List Fault
+-- ---- `Overhang`: `if let Some(limit) = print.overhang`, `if !faces.is_empty()`: one fault of all faces, which `told` finds
+unfoldable pub overhangs : Part → List Flaw
 overhangs t =
     cond (t .job .print .«has_overhang»)
-    (cond (eqb (overhangCount t (leanOf t)) 0) [] (overhangFault t (overhangCount t (leanOf t)) (overhangFaces t) (overhangArea t (leanOf t)) ∷ [])) []
+    (cond (eqb (overhangCount t (leanOf t)) 0) [] (Overhang (overhangCount t (leanOf t)) (overhangArea t (leanOf t)) ∷ [])) []
 
 -- ---- `Enclosed hollow`: "a hollow volume −1e-9: not one"
 -- `*v < -1e-9`, of the body whose lowest polygon is b; of a polygon that is no body's lowest the volume is 0.0
@@ -47,12 +46,12 @@ isSls Sla = false
 isSls Sls = true
 
 -- "in a resin or powder bed they trap what the part is made from": for SLS an Error, else a Warning
-unfoldable pub hollowFault : Part → Bool → ℕ → Fault
-hollowFault t sls b = cond sls (enclosedHollowSlsFault (hollowFaces t b) (neg (volumeOf t b))) (enclosedHollowSlaFault (hollowFaces t b) (neg (volumeOf t b)))
+unfoldable pub hollowFlaw : Part → Bool → ℕ → Flaw
+hollowFlaw t sls b = cond sls (EnclosedHollowSls b (neg (volumeOf t b))) (EnclosedHollowSla b (neg (volumeOf t b)))
 
 -- in the order of their lowest polygon
-unfoldable pub hollows : Part → List Fault
-hollows t = joined (λ b. cond (isHollow t b) (hollowFault t (isSls (t .job .process)) b ∷ []) []) (t .polygons)
+unfoldable pub hollows : Part → List Flaw
+hollows t = joined (λ b. cond (isHollow t b) (hollowFlaw t (isSls (t .job .process)) b ∷ []) []) (t .polygons)
 
 -- `matches!(process, Process::Sla | Process::Sls)`
 unfoldable pub trapsHollows : Process → Bool

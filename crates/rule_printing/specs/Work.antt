@@ -20,31 +20,30 @@ use Rattle.wall_ray.specs.Strike.{e-9}
 use Rattle.print_height.specs.Height.{upOf, heightsOf}
 use Rattle.print_overhang.specs.declared.Overhang.{Overhang}
 use Rattle.print_overhang.specs.Overhang.{leanOf, overhangCount, overhangArea}
-use Rattle.fault_row.specs.Fault.{Fault}
-use Rattle.fault_row.specs.Faults.{FaultsPut}
-use Rattle.fault_text.specs.Printing.{notClosedFault, printSmallHoleFault, overhangFault}
-use Rattle.fault_text.specs.Many.{overhangFaces}
-use Rattle.fault_text.specs.Meaning.{faultOf, GoodRow}
+use Rattle.fault_row.specs.declared.flaw.Flaw.{Flaw}
+use Rattle.fault_row.specs.declared.flaw.Flaw.the-variants as flaw
+use Rattle.fault_row.specs.Flaws.{FlawsPut}
+use Rattle.fault_text.specs.Good.{Good}
 use Rattle.rule_printing.specs.declared.printing.Upright.{Upright}
-use Rattle.rule_printing.specs.Rules.{isHollow, hollowFault}
+use Rattle.rule_printing.specs.Rules.{isHollow, hollowFlaw}
 
 -- the fault of so many open keys, or none, as the first of any part that has faces
 pub record NotClosedPut (keys : ℕ) (cells cells′ : List ℕ) (numbers numbers′ : List Float) (r : ℕ) : Type 0 where
   pub few : r ≤ 1
-  pub put : (t : Part) → 0 < facesOf t → FaultsPut (faultOf t) (GoodRow t) 0 (cond (eqb keys 0) [] (notClosedFault keys ∷ [])) cells cells′ numbers numbers′ r
+  pub put : (t : Part) → 0 < facesOf t → FlawsPut (Good t) 0 (cond (eqb keys 0) [] (flaw.NotClosed keys ∷ [])) cells cells′ numbers numbers′ r
 
 -- the fault of a small hole, or none, in any accepted file where holes are to be so large
 pub record HolePut (hole : Round) (least : Float) (from : ℕ) (cells cells′ : List ℕ) (numbers numbers′ : List Float) (r : ℕ) : Type 0 where
   pub few : r ≤ from + 1
   pub put : (s : List ℕ) → Checked s → least ≡ partOf s .job .print .«min_hole» → RoundBounds hole → hole .face < facesOf (partOf s) →
-      FaultsPut (faultOf (partOf s)) (GoodRow (partOf s)) from
-      (cond (lt (add binary64 (diameterOf hole) e-9) least) (printSmallHoleFault (partOf s) (hole .face) (diameterOf hole) ∷ []) []) cells cells′ numbers numbers′ r
+      FlawsPut (Good (partOf s)) from
+      (cond (lt (add binary64 (diameterOf hole) e-9) least) (flaw.PrintSmallHole (hole .face) (diameterOf hole) ∷ []) []) cells cells′ numbers numbers′ r
 
 -- the fault of a hollow, or none, in any accepted file
 pub record HollowPut (sls : Bool) (b : ℕ) (volume : Float) (from : ℕ) (cells cells′ : List ℕ) (numbers numbers′ : List Float) (r : ℕ) : Type 0 where
   pub few : r ≤ from + 1
   pub put : (s : List ℕ) → Checked s → volume ≡ volumeOf (partOf s) b → b < partOf s .polygons → 0 < facesOf (partOf s) →
-      FaultsPut (faultOf (partOf s)) (GoodRow (partOf s)) from (cond (isHollow (partOf s) b) (hollowFault (partOf s) sls b ∷ []) []) cells cells′ numbers numbers′ r
+      FlawsPut (Good (partOf s)) from (cond (isHollow (partOf s) b) (hollowFlaw (partOf s) sls b ∷ []) []) cells cells′ numbers numbers′ r
 
 -- the build direction, the heights along it, and the limit
 pub record HeightsAre (t : Part) (up : Vec3) (heights : Extent) (tenths : ℕ) : Type 0 where
@@ -56,8 +55,8 @@ pub record HeightsAre (t : Part) (up : Vec3) (heights : Extent) (tenths : ℕ) :
 pub record OverhangPut (found : Overhang) (from : ℕ) (cells cells′ : List ℕ) (numbers numbers′ : List Float) (r : ℕ) : Type 0 where
   pub few : r ≤ from + 1
   pub put : (s : List ℕ) → Checked s → found .count ≡ overhangCount (partOf s) (leanOf (partOf s)) → found .area ≡ overhangArea (partOf s) (leanOf (partOf s)) → 0 < facesOf (partOf s) →
-      FaultsPut (faultOf (partOf s)) (GoodRow (partOf s)) from
-      (cond (eqb (found .count) 0) [] (overhangFault (partOf s) (found .count) (overhangFaces (partOf s)) (found .area) ∷ [])) cells cells′ numbers numbers′ r
+      FlawsPut (Good (partOf s)) from
+      (cond (eqb (found .count) 0) [] (flaw.Overhang (found .count) (found .area) ∷ [])) cells cells′ numbers numbers′ r
 
 -- ---- between the rules
 -- the build direction, and the heights along it
@@ -71,10 +70,10 @@ pub record Ready (s : List ℕ) (at : Regions) (words : List ℕ) (reals : List 
   pub ranked : Ranked (partOf s) at words
 
 -- a rule has put its faults after `from` others, at most as many as `most`, and left the body and the ranks
-pub record RulePut (rule : Part → List Fault) (most : ℕ) (s : List ℕ) (at : Regions) (from : ℕ) (words words′ : List ℕ) (reals reals′ : List Float) (cells cells′ : List ℕ)
+pub record RulePut (rule : Part → List Flaw) (most : ℕ) (s : List ℕ) (at : Regions) (from : ℕ) (words words′ : List ℕ) (reals reals′ : List Float) (cells cells′ : List ℕ)
     (numbers numbers′ : List Float) (r : ℕ) : Type 0 where
   pub ready : Ready s at words′ reals′
-  pub put : FaultsPut (faultOf (partOf s)) (GoodRow (partOf s)) from (rule (partOf s)) cells cells′ numbers numbers′ r
+  pub put : FlawsPut (Good (partOf s)) from (rule (partOf s)) cells cells′ numbers numbers′ r
   pub few : r ≤ from + most
   pub words-kept : Outside 0 (at .items) (at .words) words words′
   pub reals-kept : Outside nan (at .falling) (at .free) reals reals′

@@ -6,14 +6,12 @@ ghost use lib.Dec.{eqb};
 ghost use Rattle.file_part.specs.Part.{partOf};
 ghost use Rattle.solid_faces.specs.Faces.{facesOf};
 ghost use Rattle.scratch.specs.Standing.{Standing};
-ghost use Rattle.fault_row.specs.Faults.{FaultsPut};
-ghost use Rattle.fault_text.specs.Meaning.{faultOf, GoodRow};
+ghost use Rattle.fault_row.specs.Flaws.{FlawsPut};
+ghost use Rattle.fault_text.specs.Good.{Good};
 ghost use Rattle.rule_printing.specs.Closed.{openKeys, notClosed};
 ghost use Rattle.rule_printing.specs.Work.{NotClosedPut};
-use fault_row::row::ERROR;
-use fault_row::row::FaultRow;
-use fault_row::row::put_row;
-use fault_text::kind::NOT_CLOSED;
+use fault_row::flaw::Flaw;
+use fault_row::flaw::put_flaw;
 use list_cells::cell;
 use scratch::regions::Regions;
 
@@ -52,18 +50,8 @@ fn put_open(cells: &mut [u32], numbers: &mut [f64], keys: usize) -> usize
     if keys == 0 {
         return 0;
     }
-    let row = FaultRow {
-        kind: NOT_CLOSED,
-        severity: ERROR,
-        count: 1,
-        a: 0,
-        b: 0,
-        waived: 0,
-        x: keys as f64,
-        y: 0.0,
-        z: 0.0,
-    };
-    put_row(cells, numbers, 0, row)
+    let flaw = Flaw::NotClosed(keys as u32);
+    put_flaw(cells, numbers, 0, flaw)
 }
 
 // The one row of a part that is not closed, as the first. How many faults there are then.
@@ -76,7 +64,7 @@ pub fn put_not_closed(
     at: Regions,
 ) -> usize
     requires { ⌜ Standing (now file) at (now words) (now reals) ⌝ ∗ ⌜ at .segments ≡ true ⌝ ∗ ⌜ 0 < facesOf (partOf (now file)) ⌝ }
-    ensures { λ r. ⌜ FaultsPut (faultOf (partOf (now (file .entry)))) (GoodRow (partOf (now (file .entry)))) 0 (notClosed (partOf (now (file .entry)))) (now (cells .entry)) (now (cells .exit)) (now (numbers .entry)) (now (numbers .exit)) r ⌝ ∗ ⌜ r ≤ 1 ⌝ }
+    ensures { λ r. ⌜ FlawsPut (Good (partOf (now (file .entry)))) 0 (notClosed (partOf (now (file .entry)))) (now (cells .entry)) (now (cells .exit)) (now (numbers .entry)) (now (numbers .exit)) r ⌝ ∗ ⌜ r ≤ 1 ⌝ }
 {
     let keys = open_keys(file, words, reals, at);
     put_open(cells, numbers, keys)

@@ -4,17 +4,13 @@ ghost use mathlib.Core.Bool.{true};
 ghost use Prim.Native.Nat.{_+_, _≤_, _<_};
 ghost use Rattle.file_part.specs.Part.{partOf};
 ghost use Rattle.scratch.specs.Standing.{Standing};
-ghost use Rattle.fault_row.specs.Faults.{FaultsPut};
-ghost use Rattle.fault_text.specs.Meaning.{faultOf, GoodRow};
+ghost use Rattle.fault_row.specs.Flaws.{FlawsPut};
+ghost use Rattle.fault_text.specs.Good.{Good};
 ghost use Rattle.rule_printing.specs.Rules.{hollows, trapsHollows, isSls};
 ghost use Rattle.rule_printing.specs.Work.{HollowPut};
-use fault_row::row::ERROR;
-use fault_row::row::FaultRow;
-use fault_row::row::WARNING;
-use fault_row::row::put_row;
+use fault_row::flaw::Flaw;
+use fault_row::flaw::put_flaw;
 use fault_text::job::job_of;
-use fault_text::kind::ENCLOSED_HOLLOW_SLA;
-use fault_text::kind::ENCLOSED_HOLLOW_SLS;
 use file_job::Process;
 use scratch::regions::Regions;
 
@@ -54,31 +50,11 @@ fn put_hollow(
         return from;
     }
     if sls {
-        let row = FaultRow {
-            kind: ENCLOSED_HOLLOW_SLS,
-            severity: ERROR,
-            count: 1,
-            a: b as u32,
-            b: 0,
-            waived: 0,
-            x: -volume,
-            y: 0.0,
-            z: 0.0,
-        };
-        return put_row(cells, numbers, from, row);
+        let flaw = Flaw::EnclosedHollowSls(b as u32, -volume);
+        return put_flaw(cells, numbers, from, flaw);
     }
-    let row = FaultRow {
-        kind: ENCLOSED_HOLLOW_SLA,
-        severity: WARNING,
-        count: 1,
-        a: b as u32,
-        b: 0,
-        waived: 0,
-        x: -volume,
-        y: 0.0,
-        z: 0.0,
-    };
-    put_row(cells, numbers, from, row)
+    let flaw = Flaw::EnclosedHollowSla(b as u32, -volume);
+    put_flaw(cells, numbers, from, flaw)
 }
 
 // The hollows of a print whose bodies stand in the scratch, in the order of their lowest polygons, as rows after `from` others. How many faults there are then.
@@ -92,7 +68,7 @@ pub fn put_hollows(
     from: usize,
 ) -> usize
     requires { ⌜ Standing (now file) at (now words) (now reals) ⌝ ∗ ⌜ from ≤ 65536 ⌝ ∗ ⌜ at .bodies ≡ true ⌝ }
-    ensures { λ r. ⌜ FaultsPut (faultOf (partOf (now (file .entry)))) (GoodRow (partOf (now (file .entry)))) from (hollows (partOf (now (file .entry)))) (now (cells .entry)) (now (cells .exit)) (now (numbers .entry)) (now (numbers .exit)) r ⌝ ∗ ⌜ r ≤ from + 4096 ⌝ }
+    ensures { λ r. ⌜ FlawsPut (Good (partOf (now (file .entry)))) from (hollows (partOf (now (file .entry)))) (now (cells .entry)) (now (cells .exit)) (now (numbers .entry)) (now (numbers .exit)) r ⌝ ∗ ⌜ r ≤ from + 4096 ⌝ }
 {
     let volumes = at.volumes;
     let polygons = at.polygons;

@@ -4,10 +4,8 @@ ghost use Prim.Native.Nat.{_<_};
 ghost use Rattle.file_part.specs.Part.{partOf};
 ghost use Rattle.print_overhang.specs.Overhang.{leanOf};
 ghost use Rattle.rule_printing.specs.Work.{OverhangPut, HeightsAre};
-use fault_row::row::FaultRow;
-use fault_row::row::WARNING;
-use fault_row::row::put_row;
-use fault_text::kind::OVERHANG;
+use fault_row::flaw::Flaw;
+use fault_row::flaw::put_flaw;
 use math::Vec3;
 use num_real::select::max;
 use num_sine::sine;
@@ -36,16 +34,6 @@ pub fn put_overhang(cells: &mut [u32], numbers: &mut [f64], from: usize, found: 
     if found.count == 0 {
         return from;
     }
-    let row = FaultRow {
-        kind: OVERHANG,
-        severity: WARNING,
-        count: found.count as u32,
-        a: 0,
-        b: 0,
-        waived: 0,
-        x: found.area,
-        y: 0.0,
-        z: 0.0,
-    };
-    put_row(cells, numbers, from, row)
+    let flaw = Flaw::Overhang(found.count as u32, found.area);
+    put_flaw(cells, numbers, from, flaw)
 }

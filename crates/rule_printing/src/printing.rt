@@ -10,8 +10,8 @@ ghost use Rattle.round_all.specs.Kept.{Rounds};
 ghost use Rattle.print_walls.specs.Walls.{printWalls};
 ghost use Rattle.print_overhang.specs.Overhang.{leanOf};
 ghost use Rattle.print_overhang.specs.Kept.{Marks};
-ghost use Rattle.fault_row.specs.Faults.{FaultsPut};
-ghost use Rattle.fault_text.specs.Meaning.{faultOf, GoodRow};
+ghost use Rattle.fault_row.specs.Flaws.{FlawsPut};
+ghost use Rattle.fault_text.specs.Good.{Good};
 ghost use Rattle.rule_printing.specs.Rules.{printHoles, overhangs, hollows, trapsHollows};
 ghost use Rattle.rule_printing.specs.All.{PrintingPut};
 ghost use Rattle.rule_printing.specs.Work.{Ready, RulePut, UprightIs};
@@ -152,7 +152,7 @@ fn hollow_rule(
     from: usize,
 ) -> usize
     requires { ⌜ Standing (now file) at (now words) (now reals) ⌝ ∗ ⌜ from ≤ 5122 ⌝ ∗ ⌜ (trapsHollows (partOf (now file) .job .process) ≡ true → at .bodies ≡ true) ⌝ }
-    ensures { λ r. ⌜ FaultsPut (faultOf (partOf (now (file .entry)))) (GoodRow (partOf (now (file .entry)))) from (cond (trapsHollows (partOf (now (file .entry)) .job .process)) (hollows (partOf (now (file .entry)))) []) (now (cells .entry)) (now (cells .exit)) (now (numbers .entry)) (now (numbers .exit)) r ⌝ ∗ ⌜ r ≤ from + 4096 ⌝ }
+    ensures { λ r. ⌜ FlawsPut (Good (partOf (now (file .entry)))) from (cond (trapsHollows (partOf (now (file .entry)) .job .process)) (hollows (partOf (now (file .entry)))) []) (now (cells .entry)) (now (cells .exit)) (now (numbers .entry)) (now (numbers .exit)) r ⌝ ∗ ⌜ r ≤ from + 4096 ⌝ }
 {
     let job = job_of(file);
     let process = job.process;

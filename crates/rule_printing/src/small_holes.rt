@@ -5,15 +5,13 @@ ghost use Rattle.file_part.specs.Part.{partOf};
 ghost use Rattle.solid_faces.specs.Faces.{facesOf};
 ghost use Rattle.scratch.specs.Standing.{Standing};
 ghost use Rattle.round_all.specs.Kept.{Rounds};
-ghost use Rattle.fault_row.specs.Faults.{FaultsPut};
-ghost use Rattle.fault_text.specs.Meaning.{faultOf, GoodRow};
+ghost use Rattle.fault_row.specs.Flaws.{FlawsPut};
+ghost use Rattle.fault_text.specs.Good.{Good};
 ghost use Rattle.rule_printing.specs.Rules.{printHoles};
 ghost use Rattle.rule_printing.specs.Work.{HolePut};
-use fault_row::row::FaultRow;
-use fault_row::row::WARNING;
-use fault_row::row::put_row;
+use fault_row::flaw::Flaw;
+use fault_row::flaw::put_flaw;
 use fault_text::job::job_of;
-use fault_text::kind::PRINT_SMALL_HOLE;
 use round_all::round::Round;
 use round_all::round::round_at;
 use scratch::regions::Regions;
@@ -31,18 +29,8 @@ fn put_small_hole(
 {
     let d = 2.0 * hole.radius;
     if d + 1e-9 < least {
-        let row = FaultRow {
-            kind: PRINT_SMALL_HOLE,
-            severity: WARNING,
-            count: 1,
-            a: hole.face as u32,
-            b: 0,
-            waived: 0,
-            x: d,
-            y: 0.0,
-            z: 0.0,
-        };
-        return put_row(cells, numbers, from, row);
+        let flaw = Flaw::PrintSmallHole(hole.face as u32, d);
+        return put_flaw(cells, numbers, from, flaw);
     }
     from
 }
@@ -59,7 +47,7 @@ pub fn put_small_holes(
     from: usize,
 ) -> usize
     requires { ⌜ Standing (now file) at (now words) (now reals) ⌝ ∗ ⌜ Rounds (partOf (now file)) at (now words) (now reals) ⌝ ∗ ⌜ n ≡ facesOf (partOf (now file)) ⌝ ∗ ⌜ from ≤ 65536 ⌝ }
-    ensures { λ r. ⌜ FaultsPut (faultOf (partOf (now (file .entry)))) (GoodRow (partOf (now (file .entry)))) from (printHoles (partOf (now (file .entry)))) (now (cells .entry)) (now (cells .exit)) (now (numbers .entry)) (now (numbers .exit)) r ⌝ ∗ ⌜ r ≤ from + 1024 ⌝ }
+    ensures { λ r. ⌜ FlawsPut (Good (partOf (now (file .entry)))) from (printHoles (partOf (now (file .entry)))) (now (cells .entry)) (now (cells .exit)) (now (numbers .entry)) (now (numbers .exit)) r ⌝ ∗ ⌜ r ≤ from + 1024 ⌝ }
 {
     let kinds = at.kinds;
     let job = job_of(file);

@@ -1,8 +1,8 @@
 -- All rules of sheet metal, one after the other: what each leaves for the next, and all of them together.
 use mathlib.Core.Path.{_≡_, refl, sym, ap, _∙_, subst}
-use mathlib.Core.Bool.{true, false, not, true≢false}
+use mathlib.Core.Bool.{true, false, true≢false}
 use mathlib.Core.List.{List, [], _∷_, _++_, append-nil}
-use Prim.Native.Nat.{ℕ, _+_, _≤_, _<_}
+use Prim.Native.Nat.{ℕ, _≤_, _<_}
 use native.Mathlib.Omega.{arith}
 use lib.Dec.{lit<}
 use lib.ListN.{length}
@@ -27,7 +27,7 @@ use Rattle.wall_pairs.proofs.KeptLaws.{rounds-kept}
 use Rattle.round_all.specs.Kept.{Rounds}
 use Rattle.measure_sizes.specs.Reading.{ReadingBounds}
 use Rattle.sheet_thickness.specs.declared.Thickness.{Thickness}
-use Rattle.sheet_thickness.specs.Thickness.{keptReadings, thicknessOf, isUneven}
+use Rattle.sheet_thickness.specs.Thickness.{keptReadings, thicknessOf, thinnestOf, thickestOf, isUneven}
 use Rattle.sheet_thickness.specs.Kept.{ThicknessIs, Measured, OffFaces}
 use Rattle.sheet_thickness.proofs.KeptLaws.{still-read, still-ordered}
 use Rattle.sheet_thickness.proofs.SizeLaws.{thickness-bounds}
@@ -37,22 +37,20 @@ use Rattle.sheet_bends.specs.Work.{SheetStands}
 use Rattle.sheet_bends.proofs.BendLaws.{sheet-stands}
 use Rattle.fault_row.specs.declared.summary.Summary.{Summary}
 use Rattle.fault_row.specs.declared.summary.Found.{Found}
-use Rattle.fault_row.specs.Row.{row, RowPut}
-use Rattle.fault_row.specs.Faults.{FaultsPut}
+use Rattle.fault_row.specs.declared.flaw.Flaw.the-variants.{NotOneThickness}
+use Rattle.fault_row.specs.Row.{RowPut}
+use Rattle.fault_row.specs.Flaw.{rowOf}
+use Rattle.fault_row.specs.Flaws.{FlawsPut}
 use Rattle.fault_row.specs.Summary.{noSummary, sheetSummary}
-use Rattle.fault_row.proofs.FaultLaws.{faults-none, faults-one, faults-then, faults-same}
-use Rattle.fault_text.specs.Kind.{notOneThickness}
-use Rattle.fault_text.specs.Many.{offFaces}
-use Rattle.fault_text.specs.Sheet.{notOneThicknessFault}
-use Rattle.fault_text.specs.Meaning.{faultOf, GoodRow}
-use Rattle.fault_text.proofs.MeaningLaws.{good-row}
-use Rattle.fault_text.proofs.SheetLaws.{not-one-thickness-row, not-one-thickness-printed}
+use Rattle.fault_row.proofs.RowLaws.{row-put-same}
+use Rattle.fault_row.proofs.FlawLaws.{flaws-none, flaws-one, flaws-then, flaws-same}
+use Rattle.fault_text.specs.Good.{Good}
 use Rattle.rule_flanges.specs.Flanges.{shortFlanges}
 use Rattle.rule_holes.specs.Holes.{sheetHoles}
 use Rattle.rule_sheet.specs.declared.ready.Ready.{Ready}
-use Rattle.rule_sheet.specs.Material.{isFormed, materialFaults}
+use Rattle.rule_sheet.specs.Material.{isFormed, materialFlaws}
 use Rattle.rule_sheet.specs.Tight.{tightBends}
-use Rattle.rule_sheet.specs.All.{unevenFault, bentFaults, isMeasured, formedFaults, sheetMetal, isSheet, summaryOf, SheetPut}
+use Rattle.rule_sheet.specs.All.{unevenFlaw, bentFlaws, isMeasured, formedFlaws, sheetMetal, isSheet, summaryOf, SheetPut}
 use Rattle.rule_sheet.specs.Work.{MaterialPut, ReadyPut, UnevenPut, formedSummary, FormedPut}
 
 -- ---- `Not one thickness`
@@ -60,33 +58,32 @@ bounds-accepted : (x : Float) → ReadingBounds x → accepted x 2 ≡ true
 bounds-accepted x b = accepted-at x 131072 2 (b .nonneg) (b .within) (lit< tt) (omega arith)
 
 module _ (t : Part) (found : Thickness) (is : ThicknessIs t found) (some : 1 ≤ found .kept) where
-  uneven-is : notOneThicknessFault (offFaces t) (found .thinnest) (found .thickest) (found .value) ≡ unevenFault t
-  unfolding unevenFault
+  uneven-is : NotOneThickness (found .thinnest) (found .thickest) (found .value) ≡ unevenFlaw t
+  unfolding unevenFlaw
   uneven-is = rw (is .thinnest some, is .thickest some, is .value some) refl
 
+uneven-good : (t : Part) → 0 < facesOf t → accepted (thinnestOf t) 2 ≡ true → accepted (thickestOf t) 2 ≡ true → accepted (thicknessOf t) 2 ≡ true → Good t (unevenFlaw t)
+unfolding unevenFlaw Good
+uneven-good t faces lo hi mid = (faces, lo, hi, mid)
+
 pub uneven-put : {found : Thickness} {from r : ℕ} {cells cells′ : List ℕ} {numbers numbers′ : List Float} →
-    RowPut from (row notOneThickness 0 1 0 0 0 (found .thinnest) (found .thickest) (found .value)) cells cells′ numbers numbers′ r → UnevenPut found from cells cells′ numbers numbers′ r
+    RowPut from (rowOf (NotOneThickness (found .thinnest) (found .thickest) (found .value))) cells cells′ numbers numbers′ r → UnevenPut found from cells cells′ numbers numbers′ r
 uneven-put {found} {from} {r} {cells} {cells′} {numbers} {numbers′} p =
     record { few = omega (arith, p .count); put = λ s checked is some faces. one s checked is some faces }
   where
     one : (s : List ℕ) → Checked s → ThicknessIs (partOf s) found → 1 ≤ found .kept → 0 < facesOf (partOf s) →
-        FaultsPut (faultOf (partOf s)) (GoodRow (partOf s)) from (unevenFault (partOf s) ∷ []) cells cells′ numbers numbers′ r
+        FlawsPut (Good (partOf s)) from (unevenFlaw (partOf s) ∷ []) cells cells′ numbers numbers′ r
     one s checked is some faces =
         let t = partOf s in
         let b = thickness-bounds s checked (omega (arith, some, is .kept)) in
-        let lo : accepted (found .thinnest) 2 ≡ true = subst (λ (x : Float). accepted x 2 ≡ true) (sym (is .thinnest some)) (bounds-accepted _ (b .1)) in
-        let hi : accepted (found .thickest) 2 ≡ true = subst (λ (x : Float). accepted x 2 ≡ true) (sym (is .thickest some)) (bounds-accepted _ (b .2)) in
-        let mid : accepted (found .value) 2 ≡ true = subst (λ (x : Float). accepted x 2 ≡ true) (sym (is .value some)) (bounds-accepted _ (b .0)) in
-        faults-one (unevenFault t) p (not-one-thickness-row t (found .thinnest) (found .thickest) (found .value) ∙ uneven-is t found is some)
-        (good-row t notOneThickness 0 0 0 (found .thinnest) (found .thickest) (found .value) (omega arith) (omega arith) (omega arith) faces faces
-        (not-one-thickness-printed t (found .thinnest) (found .thickest) (found .value) lo hi mid))
+        flaws-one (unevenFlaw t) (row-put-same (ap rowOf (uneven-is t found is some)) p) (uneven-good t faces (bounds-accepted _ (b .1)) (bounds-accepted _ (b .2)) (bounds-accepted _ (b .0)))
 
 -- ---- the bends, the flanges and the holes
 pub bent-put : (t : Part) (thick : Float) {from i j k : ℕ} {c0 c1 c2 c3 : List ℕ} {n0 n1 n2 n3 : List Float} →
-    FaultsPut (faultOf t) (GoodRow t) from (tightBends t thick) c0 c1 n0 n1 i → FaultsPut (faultOf t) (GoodRow t) i (shortFlanges t thick) c1 c2 n1 n2 j →
-    FaultsPut (faultOf t) (GoodRow t) j (sheetHoles t thick) c2 c3 n2 n3 k → FaultsPut (faultOf t) (GoodRow t) from (bentFaults t thick) c0 c3 n0 n3 k
-unfolding bentFaults
-bent-put t thick p q r = faults-then p (faults-then q r)
+    FlawsPut (Good t) from (tightBends t thick) c0 c1 n0 n1 i → FlawsPut (Good t) i (shortFlanges t thick) c1 c2 n1 n2 j →
+    FlawsPut (Good t) j (sheetHoles t thick) c2 c3 n2 n3 k → FlawsPut (Good t) from (bentFlaws t thick) c0 c3 n0 n3 k
+unfolding bentFlaws
+bent-put t thick p q r = flaws-then p (flaws-then q r)
 
 -- ---- what there is to find, by what is measured
 measured-none : (t : Part) → length (keptReadings t) ≡ 0 → isMeasured t ≡ false
@@ -98,15 +95,15 @@ unfolding isMeasured
 measured-some t h = le-leb 1 (length (keptReadings t)) h
 
 module _ (t : Part) where
-  none-found : isMeasured t ≡ false → ([] ≡ formedFaults t) × (noSummary ≡ formedSummary t)
-  none-found e = (unfold formedFaults in rw e refl, unfold formedSummary in rw e refl)
+  none-found : isMeasured t ≡ false → ([] ≡ formedFlaws t) × (noSummary ≡ formedSummary t)
+  none-found e = (unfold formedFlaws in rw e refl, unfold formedSummary in rw e refl)
 
-  uneven-found : isMeasured t ≡ true → isUneven t ≡ true → (unevenFault t ∷ [] ≡ formedFaults t) × (noSummary ≡ formedSummary t)
-  uneven-found e u = (unfold formedFaults in rw (e, u) refl, unfold formedSummary in rw (e, u) refl)
+  uneven-found : isMeasured t ≡ true → isUneven t ≡ true → (unevenFlaw t ∷ [] ≡ formedFlaws t) × (noSummary ≡ formedSummary t)
+  uneven-found e u = (unfold formedFlaws in rw (e, u) refl, unfold formedSummary in rw (e, u) refl)
 
   sheet-found : isMeasured t ≡ true → isUneven t ≡ false →
-      (bentFaults t (thicknessOf t) ≡ formedFaults t) × (sheetSummary (thicknessOf t) (bendCount t (thicknessOf t)) ≡ formedSummary t)
-  sheet-found e u = (unfold formedFaults in rw (e, u) refl, unfold formedSummary in rw (e, u) refl)
+      (bentFlaws t (thicknessOf t) ≡ formedFlaws t) × (sheetSummary (thicknessOf t) (bendCount t (thicknessOf t)) ≡ formedSummary t)
+  sheet-found e u = (unfold formedFlaws in rw (e, u) refl, unfold formedSummary in rw (e, u) refl)
 
 -- ---- a part that can be formed
 module _ (s : List ℕ) (at : Regions) (w0 w1 w2 : List ℕ) (r0 r1 r2 : List Float) (n : ℕ) (ready : Ready) (found : Thickness) (h : Standing s at w0 r0) (faces : n ≡ facesOf (partOf s))
@@ -150,7 +147,7 @@ module _ (s : List ℕ) (at : Regions) (w0 w1 w2 : List ℕ) (r0 r1 r2 : List Fl
   formed-none {from} {cells} {numbers} few none x e =
       let empty = measured-none t (sym (measured .is .kept) ∙ none) in
       record {
-        put = faults-same (none-found t empty .0) (faults-none from cells numbers);
+        put = flaws-same (none-found t empty .0) (flaws-none from cells numbers);
         few = omega (arith, few);
         summary = e ∙ none-found t empty .1;
         standing = ordered-then .standing;
@@ -172,22 +169,22 @@ module _ (s : List ℕ) (at : Regions) (w0 w1 w2 : List ℕ) (r0 r1 r2 : List Fl
       pub words-uneven : Outside 0 (at .items) (at .words) w0 w3
       words-uneven = outside-then 0 _ _ w0 w2 w3 words-then (outside-wide 0 _ _ _ _ w2 w3 (omega (arith, laid)) (omega (arith, laid)) w)
 
-      uneven-faults : {from k : ℕ} {cells cells′ : List ℕ} {numbers numbers′ : List Float} → 0 < n → UnevenPut found from cells cells′ numbers numbers′ k →
-          FaultsPut (faultOf t) (GoodRow t) from (unevenFault t ∷ []) cells cells′ numbers numbers′ k
-      uneven-faults there p = p .put s (h .placed .checked) (measured .is) (some-kept some) (omega (arith, there, faces))
+      uneven-flaws : {from k : ℕ} {cells cells′ : List ℕ} {numbers numbers′ : List Float} → 0 < n → UnevenPut found from cells cells′ numbers numbers′ k →
+          FlawsPut (Good t) from (unevenFlaw t ∷ []) cells cells′ numbers numbers′ k
+      uneven-flaws there p = p .put s (h .placed .checked) (measured .is) (some-kept some) (omega (arith, there, faces))
 
       pub cells-uneven : {from k : ℕ} {cells cells′ : List ℕ} {numbers numbers′ : List Float} → 0 < n → UnevenPut found from cells cells′ numbers numbers′ k → length cells′ ≡ length cells
-      cells-uneven there p = uneven-faults there p .cells-kept .long
+      cells-uneven there p = uneven-flaws there p .cells-kept .long
 
       pub numbers-uneven : {from k : ℕ} {cells cells′ : List ℕ} {numbers numbers′ : List Float} → 0 < n → UnevenPut found from cells cells′ numbers numbers′ k → length numbers′ ≡ length numbers
-      numbers-uneven there p = uneven-faults there p .numbers-kept .long
+      numbers-uneven there p = uneven-flaws there p .numbers-kept .long
 
       pub formed-uneven : {from k : ℕ} {cells cells′ : List ℕ} {numbers numbers′ : List Float} → from ≤ 1 → 0 < n → UnevenPut found from cells cells′ numbers numbers′ k → (x : Summary) → x ≡ noSummary →
           FormedPut s at from w0 w3 r0 r2 cells cells′ numbers numbers′ (record { faults = k; summary = x })
       formed-uneven {from} {k} {cells} {cells′} {numbers} {numbers′} few there p x e =
           let off : isUneven t ≡ true = sym (measured .is .uneven (some-kept some)) ∙ uneven in
           record {
-            put = faults-same (uneven-found t full off .0) (uneven-faults there p);
+            put = flaws-same (uneven-found t full off .0) (uneven-flaws there p);
             few = omega (arith, few, p .few);
             summary = e ∙ uneven-found t full off .1;
             standing = ordered-last .standing;
@@ -209,14 +206,14 @@ module _ (s : List ℕ) (at : Regions) (w0 w1 w2 : List ℕ) (r0 r1 r2 : List Fl
       words-sheet = outside-then 0 _ _ w0 w2 w3 words-then (outside-wide 0 _ _ _ _ w2 w3 (omega (arith, laid)) (omega (arith, laid)) (bends .kept))
 
       pub formed-sheet : {from k : ℕ} {cells cells′ : List ℕ} {numbers numbers′ : List Float} →
-          FaultsPut (faultOf t) (GoodRow t) from (bentFaults t (found .value)) cells cells′ numbers numbers′ k → k ≤ 4194304 → (x : Summary) → x ≡ sheetSummary (found .value) b →
+          FlawsPut (Good t) from (bentFlaws t (found .value)) cells cells′ numbers numbers′ k → k ≤ 4194304 → (x : Summary) → x ≡ sheetSummary (found .value) b →
           FormedPut s at from w0 w3 r0 r2 cells cells′ numbers numbers′ (record { faults = k; summary = x })
       formed-sheet {from} {k} {cells} {cells′} {numbers} {numbers′} p few x e =
           let off : isUneven t ≡ false = sym (measured .is .uneven (some-kept some)) ∙ even in
           let thick : found .value ≡ thicknessOf t = measured .is .value (some-kept some) in
           let all : sheetSummary (found .value) b ≡ sheetSummary (thicknessOf t) (bendCount t (thicknessOf t)) = rw (bends .count, thick) refl in
           record {
-            put = faults-same (ap (bentFaults t) thick ∙ sheet-found t full off .0) p;
+            put = flaws-same (ap (bentFlaws t) thick ∙ sheet-found t full off .0) p;
             few = few;
             summary = e ∙ all ∙ sheet-found t full off .1;
             standing = sheet-there .ordered .standing;
@@ -227,10 +224,10 @@ module _ (s : List ℕ) (at : Regions) (w0 w1 w2 : List ℕ) (r0 r1 r2 : List Fl
           }
 
 -- ---- all of them
-metal-none : (t : Part) → isFormed (t .job) ≡ false → (materialFaults t ≡ sheetMetal t) × (noSummary ≡ summaryOf t)
-metal-none t e = (sym (append-nil (materialFaults t)) ∙ (unfold sheetMetal in rw e refl), unfold summaryOf in unfold isSheet in rw e refl)
+metal-none : (t : Part) → isFormed (t .job) ≡ false → (materialFlaws (t .job) ≡ sheetMetal t) × (noSummary ≡ summaryOf t)
+metal-none t e = (sym (append-nil (materialFlaws (t .job))) ∙ (unfold sheetMetal in rw e refl), unfold summaryOf in unfold isSheet in rw e refl)
 
-metal-some : (t : Part) → isFormed (t .job) ≡ true → (materialFaults t ++ formedFaults t ≡ sheetMetal t) × (formedSummary t ≡ summaryOf t)
+metal-some : (t : Part) → isFormed (t .job) ≡ true → (materialFlaws (t .job) ++ formedFlaws t ≡ sheetMetal t) × (formedSummary t ≡ summaryOf t)
 metal-some t e = (unfold sheetMetal in rw e refl, unfold formedSummary in unfold summaryOf in unfold isSheet in rw e refl)
 
 module _ (s : List ℕ) (at : Regions) (w0 w1 : List ℕ) (r0 r1 : List Float) (h : Standing s at w0 r0) (ranks : RanksPut s at w0 w1 r0 r1) (job : Job) (is : job ≡ partOf s .job)
@@ -246,14 +243,14 @@ module _ (s : List ℕ) (at : Regions) (w0 w1 : List ℕ) (r0 r1 : List Float) (
   pub reals-ranked : Outside nan (at .falling) (at .reals) r0 r1
   reals-ranked = outside-wide nan _ _ _ _ r0 r1 (omega arith) (omega (arith, laid-at)) (ranks .only .keys)
 
-  pub said : FaultsPut (faultOf (partOf s)) (GoodRow (partOf s)) 0 (materialFaults (partOf s)) c0 c1 n0 n1 k
-  said = material .put (partOf s) is some
+  pub said : FlawsPut (Good (partOf s)) 0 (materialFlaws (partOf s .job)) c0 c1 n0 n1 k
+  said = flaws-same (ap materialFlaws is) (material .put (partOf s) some)
 
   pub metal-refused : isFormed job ≡ false → (x : Summary) → x ≡ noSummary → SheetPut s at w0 w1 r0 r1 c0 c1 n0 n1 (record { faults = k; summary = x })
   metal-refused e x ex =
       let off : isFormed (partOf s .job) ≡ false = sym (ap isFormed is) ∙ e in
       record {
-        put = faults-same (metal-none (partOf s) off .0) said;
+        put = flaws-same (metal-none (partOf s) off .0) said;
         few = omega (arith, material .few);
         summary = ex ∙ metal-none (partOf s) off .1;
         standing = ranks .standing;
@@ -280,7 +277,7 @@ module _ (s : List ℕ) (at : Regions) (w0 w1 : List ℕ) (r0 r1 : List Float) (
     metal-formed e =
         let on : isFormed (partOf s .job) ≡ true = sym (ap isFormed is) ∙ e in
         record {
-          put = faults-same (metal-some (partOf s) on .0) (faults-then said (formed .put));
+          put = flaws-same (metal-some (partOf s) on .0) (flaws-then said (formed .put));
           few = formed .few;
           summary = formed .summary ∙ metal-some (partOf s) on .1;
           standing = formed .standing;

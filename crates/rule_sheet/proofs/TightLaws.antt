@@ -12,9 +12,8 @@ use Rattle.num_float.specs.Sign.{NonNeg, plus-zero}
 use Rattle.num_float.specs.Within.{Within, Beyond}
 use Rattle.num_float.proofs.Within.{held-small, mul-within, div-within, whole-within}
 use Rattle.num_float.proofs.Sign.{mul-nonneg, div-nonneg, whole-nonneg}
-use Rattle.num_text.specs.Decimal.{accepted}
 use Rattle.num_text.proofs.NeverRefused.{accepted-at}
-use Rattle.math.specs.Vector.{zero, one}
+use Rattle.math.specs.Vector.{one}
 use Rattle.list_groups.specs.Groups.{joined}
 use Rattle.list_groups.proofs.Flat.{joined-none, joined-suc}
 use Rattle.file_job.specs.declared.Job.{Job}
@@ -31,15 +30,13 @@ use Rattle.measure_sizes.specs.Round.{RoundBounds}
 use Rattle.measure_sizes.proofs.Rounds.{round-bounds}
 use Rattle.sheet_bends.specs.Bends.{outsideOf, isBend}
 use Rattle.sheet_bends.proofs.BendLaws.{bend-faces}
-use Rattle.fault_row.specs.Row.{row, RowPut}
-use Rattle.fault_row.specs.Faults.{FaultsPut}
-use Rattle.fault_row.proofs.FaultLaws.{faults-none, faults-one, faults-then, faults-same}
-use Rattle.fault_text.specs.Kind.{tightBend}
-use Rattle.fault_text.specs.Sheet.{tightBendFault}
-use Rattle.fault_text.specs.Meaning.{faultOf, GoodRow}
+use Rattle.fault_row.specs.declared.flaw.Flaw.the-variants.{TightBend}
+use Rattle.fault_row.specs.Row.{RowPut}
+use Rattle.fault_row.specs.Flaw.{rowOf}
+use Rattle.fault_row.specs.Flaws.{FlawsPut}
+use Rattle.fault_row.proofs.FlawLaws.{flaws-none, flaws-one, flaws-then, flaws-same}
+use Rattle.fault_text.specs.Good.{Good}
 use Rattle.fault_text.proofs.JobLaws.{ratio-to}
-use Rattle.fault_text.proofs.MeaningLaws.{good-row}
-use Rattle.fault_text.proofs.SheetLaws.{tight-bend-row, tight-bend-printed}
 use Rattle.rule_sheet.specs.Material.{ratioOf}
 use Rattle.rule_sheet.specs.Tight as tight
 use Rattle.rule_sheet.specs.Work.{TightPut}
@@ -48,25 +45,24 @@ use Rattle.rule_sheet.specs.Work.{TightPut}
 module _ {inner : Round} {outer : ℕ} {least : Float} {from : ℕ} {cells : List ℕ} {numbers : List Float} where
   pub tight-none : lt (add binary64 (inner .radius) e-9) least ≡ false → TightPut inner outer least from cells cells numbers numbers from
   tight-none e =
-      record { few = omega arith; put = λ t is b low high n w. faults-same (sym (quiet t is)) (faults-none from cells numbers) }
+      record { few = omega arith; put = λ t is b low high n w. flaws-same (sym (quiet t is)) (flaws-none from cells numbers) }
     where
       quiet : (t : Part) → inner ≡ roundOf t (inner .face) → tight.tightBend t least (inner .face) outer ≡ []
       quiet t is = unfold tight.tightBend in rw (← is, e) refl
 
 module _ {inner : Round} {outer : ℕ} {least : Float} {from : ℕ} {cells cells′ : List ℕ} {numbers numbers′ : List Float} {r : ℕ} where
   pub tight-one : lt (add binary64 (inner .radius) e-9) least ≡ true →
-      RowPut from (row tightBend 0 1 (inner .face) outer 0 (inner .radius) least zero) cells cells′ numbers numbers′ r → TightPut inner outer least from cells cells′ numbers numbers′ r
+      RowPut from (rowOf (TightBend (inner .face) outer (inner .radius) least)) cells cells′ numbers numbers′ r → TightPut inner outer least from cells cells′ numbers numbers′ r
+  unfolding Good
   tight-one e p =
       record {
         few = omega (arith, p .count);
         put = λ t is b low high n w.
-            faults-same (sym (found t is)) (faults-one (tightBendFault t (inner .face) outer (inner .radius) least) p (tight-bend-row t (inner .face) outer (inner .radius) least)
-            (good-row t tightBend 0 (inner .face) outer (inner .radius) least zero (omega arith) (omega arith) (omega arith) low high
-            (tight-bend-printed t (inner .face) outer (inner .radius) least (accepted-at (inner .radius) 10000 2 (b .radius-nonneg) (b .radius-within) (lit< tt) (omega arith))
-            (accepted-at least 17179869184 2 n w (lit< tt) (omega arith)))));
+            flaws-same (sym (found t is)) (flaws-one (TightBend (inner .face) outer (inner .radius) least) p
+            (low, high, accepted-at (inner .radius) 10000 2 (b .radius-nonneg) (b .radius-within) (lit< tt) (omega arith), accepted-at least 17179869184 2 n w (lit< tt) (omega arith)));
       }
     where
-      found : (t : Part) → inner ≡ roundOf t (inner .face) → tight.tightBend t least (inner .face) outer ≡ tightBendFault t (inner .face) outer (inner .radius) least ∷ []
+      found : (t : Part) → inner ≡ roundOf t (inner .face) → tight.tightBend t least (inner .face) outer ≡ TightBend (inner .face) outer (inner .radius) least ∷ []
       found t is = unfold tight.tightBend in rw (← is, e) refl
 
 -- ---- the least radius of an accepted file
@@ -118,15 +114,15 @@ module _ (s : List ℕ) (h : Checked s) (thick : Float) (b : ReadingBounds thick
 -- the faults of the faces below f are put
 abbrev pub TightTo : Part → Float → ℕ → ℕ → List ℕ → List ℕ → List Float → List Float → ℕ → Type 0
 TightTo t thick f from cells cells′ numbers numbers′ k =
-    (k ≤ from + f) × FaultsPut (faultOf t) (GoodRow t) from (joined (tight.bendTight t thick) f) cells cells′ numbers numbers′ k
+    (k ≤ from + f) × FlawsPut (Good t) from (joined (tight.bendTight t thick) f) cells cells′ numbers numbers′ k
 
 pub tight-start : (t : Part) (thick : Float) (from : ℕ) (cells : List ℕ) (numbers : List Float) → TightTo t thick 0 from cells cells numbers numbers from
-tight-start t thick from cells numbers = (omega arith, faults-same (sym (joined-none (tight.bendTight t thick))) (faults-none from cells numbers))
+tight-start t thick from cells numbers = (omega arith, flaws-same (sym (joined-none (tight.bendTight t thick))) (flaws-none from cells numbers))
 
 pub tight-end : (t : Part) (thick : Float) {f from k : ℕ} {cells cells′ : List ℕ} {numbers numbers′ : List Float} → f ≡ facesOf t →
-    TightTo t thick f from cells cells′ numbers numbers′ k → FaultsPut (faultOf t) (GoodRow t) from (tight.tightBends t thick) cells cells′ numbers numbers′ k
+    TightTo t thick f from cells cells′ numbers numbers′ k → FlawsPut (Good t) from (tight.tightBends t thick) cells cells′ numbers numbers′ k
 unfolding tight.tightBends
-tight-end t thick e p = faults-same (ap (joined (tight.bendTight t thick)) e) (p .1)
+tight-end t thick e p = flaws-same (ap (joined (tight.bendTight t thick)) e) (p .1)
 
 module _ (t : Part) (thick : Float) (f : ℕ) where
   pass-is : isBend t thick f ≡ false → joined (tight.bendTight t thick) f ≡ joined (tight.bendTight t thick) (f + 1)
@@ -135,7 +131,7 @@ module _ (t : Part) (thick : Float) (f : ℕ) where
 
   pub tight-pass : {from k : ℕ} {cells cells′ : List ℕ} {numbers numbers′ : List Float} → isBend t thick f ≡ false →
       TightTo t thick f from cells cells′ numbers numbers′ k → TightTo t thick (f + 1) from cells cells′ numbers numbers′ k
-  tight-pass e p = (omega (arith, p .0), faults-same (pass-is e) (p .1))
+  tight-pass e p = (omega (arith, p .0), flaws-same (pass-is e) (p .1))
 
 round-face : (t : Part) (f : ℕ) → roundOf t f .face ≡ f
 unfolding roundOf
@@ -162,7 +158,7 @@ module _ (s : List ℕ) (checked : Checked s) (thick : Float) (b : ReadingBounds
         let one = q .put t same bounds (omega (arith, inner-face, low)) (omega (arith, eo, faces .1)) (subst NonNeg (sym el) (least-nonneg s checked thick b))
         (subst (λ (x : Float). Within x 17179869184) (sym el) (least-within s checked thick b)) in
         let named : tight.tightBend t least (inner .face) outer ≡ tight.tightBend t (tight.minRadius t thick) f (outsideOf t thick f) = rw (el, inner-face, eo) refl in
-        (omega (arith, p .0, q .few), faults-same next-is (faults-then (p .1) (faults-same named one)))
+        (omega (arith, p .0, q .few), flaws-same next-is (flaws-then (p .1) (flaws-same named one)))
 
 -- ---- in the words of the loop
 pub bend-room : (s : List ℕ) (at : Regions) {words : List ℕ} {reals : List Float} → Standing s at words reals → (thick : Float) (f : ℕ) → f < facesOf (partOf s) → {g : ℕ} →

@@ -16,36 +16,35 @@ use Rattle.sheet_thickness.specs.Kept.{OffFaces}
 use Rattle.sheet_bends.specs.Bends.{bendCount}
 use Rattle.fault_row.specs.declared.summary.Summary.{Summary}
 use Rattle.fault_row.specs.declared.summary.Found.{Found}
-use Rattle.fault_row.specs.Fault.{Fault}
-use Rattle.fault_row.specs.Faults.{FaultsPut}
+use Rattle.fault_row.specs.declared.flaw.Flaw.{Flaw}
+use Rattle.fault_row.specs.declared.flaw.Flaw.the-variants.{NotOneThickness}
+use Rattle.fault_row.specs.Flaws.{FlawsPut}
 use Rattle.fault_row.specs.Summary.{noSummary, sheetSummary}
-use Rattle.fault_text.specs.Sheet.{notOneThicknessFault}
-use Rattle.fault_text.specs.Many.{offFaces}
-use Rattle.fault_text.specs.Meaning.{faultOf, GoodRow}
+use Rattle.fault_text.specs.Good.{Good}
 use Rattle.rule_flanges.specs.Flanges.{shortFlanges}
 use Rattle.rule_holes.specs.Holes.{sheetHoles}
-use Rattle.rule_sheet.specs.Material.{isFormed, materialFaults}
+use Rattle.rule_sheet.specs.Material.{isFormed, materialFlaws}
 use Rattle.rule_sheet.specs.Tight.{tightBends}
 
--- `Not one thickness`: "its faces are those of all readings that are off"
-unfoldable pub unevenFault : Part → Fault
-unevenFault t = notOneThicknessFault (offFaces t) (thinnestOf t) (thickestOf t) (thicknessOf t)
+-- `Not one thickness`: "its faces are those of all readings that are off", which `told` finds
+unfoldable pub unevenFlaw : Part → Flaw
+unevenFlaw t = NotOneThickness (thinnestOf t) (thickestOf t) (thicknessOf t)
 
 -- a sheet of this thickness: its bends, its flanges, its holes
-unfoldable pub bentFaults : Part → Float → List Fault
-bentFaults t thick = tightBends t thick ++ (shortFlanges t thick ++ sheetHoles t thick)
+unfoldable pub bentFlaws : Part → Float → List Flaw
+bentFlaws t thick = tightBends t thick ++ (shortFlanges t thick ++ sheetHoles t thick)
 
 -- `if samples.is_empty() { return; }` fails
 unfoldable pub isMeasured : Part → Bool
 isMeasured t = leb 1 (length (keptReadings t))
 
 -- of a part that can be formed: nothing more where no reading is kept, and nothing else where it is not one thickness
-unfoldable pub formedFaults : Part → List Fault
-formedFaults t = cond (isMeasured t) (cond (isUneven t) (unevenFault t ∷ []) (bentFaults t (thicknessOf t))) []
+unfoldable pub formedFlaws : Part → List Flaw
+formedFlaws t = cond (isMeasured t) (cond (isUneven t) (unevenFlaw t ∷ []) (bentFlaws t (thicknessOf t))) []
 
 -- dfm.rs's `sheet_metal`, in its order
-unfoldable pub sheetMetal : Part → List Fault
-sheetMetal t = materialFaults t ++ cond (isFormed (t .job)) (formedFaults t) []
+unfoldable pub sheetMetal : Part → List Flaw
+sheetMetal t = materialFlaws (t .job) ++ cond (isFormed (t .job)) (formedFlaws t) []
 
 -- `report.thickness = Some(t)` is reached
 unfoldable pub isSheet : Part → Bool
@@ -58,7 +57,7 @@ summaryOf t = cond (isSheet t) (sheetSummary (thicknessOf t) (bendCount t (thick
 -- The faults are put as the rows from 0 on, as far as rows are lent. The body still stands in the scratch, with the ranks of its faces, and where the
 -- part is not one thickness the marks of the faces that are off; its other cells from `items` and from `falling` on are work.
 pub record SheetPut (s : List ℕ) (at : Regions) (words words′ : List ℕ) (reals reals′ : List Float) (cells cells′ : List ℕ) (numbers numbers′ : List Float) (r : Found) : Type 0 where
-  pub put : FaultsPut (faultOf (partOf s)) (GoodRow (partOf s)) 0 (sheetMetal (partOf s)) cells cells′ numbers numbers′ (r .faults)
+  pub put : FlawsPut (Good (partOf s)) 0 (sheetMetal (partOf s)) cells cells′ numbers numbers′ (r .faults)
   pub few : r .faults ≤ 4194304
   pub summary : r .summary ≡ summaryOf (partOf s)
   pub standing : Standing s at words′ reals′

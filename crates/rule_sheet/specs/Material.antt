@@ -7,9 +7,8 @@ use Rattle.math.specs.Vector.{one}
 use Rattle.file_job.specs.declared.MaterialClass.{MaterialClass}
 use Rattle.file_job.specs.declared.MaterialClass.the-variants.{Metal, Plastic}
 use Rattle.file_job.specs.declared.Job.{Job}
-use Rattle.file_part.specs.Part.{Part}
-use Rattle.fault_row.specs.Fault.{Fault}
-use Rattle.fault_text.specs.Sheet.{noMaterialFault, materialFault}
+use Rattle.fault_row.specs.declared.flaw.Flaw.{Flaw}
+use Rattle.fault_row.specs.declared.flaw.Flaw.the-variants.{NoMaterial, Material}
 
 unfoldable pub isMetal : MaterialClass → Bool
 isMetal Metal = true
@@ -24,5 +23,5 @@ unfoldable pub ratioOf : Job → Float
 ratioOf job = cond (job .«has_material») (div binary64 (ofInt binary64 (pos (job .material .«bend_ratio»))) (ofBits binary64 0x408f_4000_0000_0000)) one
 
 -- `No material`, or `Material`, or nothing
-unfoldable pub materialFaults : Part → List Fault
-materialFaults t = cond (t .job .«has_material») (cond (isFormed (t .job)) [] (materialFault t ∷ [])) (noMaterialFault ∷ [])
+unfoldable pub materialFlaws : Job → List Flaw
+materialFlaws job = cond (job .«has_material») (cond (isFormed job) [] (Material ∷ [])) (NoMaterial ∷ [])

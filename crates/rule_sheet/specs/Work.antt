@@ -27,18 +27,18 @@ use Rattle.sheet_thickness.specs.Kept.{ThicknessIs, OffFaces}
 use Rattle.sheet_bends.specs.Bends.{bendCount}
 use Rattle.fault_row.specs.declared.summary.Summary.{Summary}
 use Rattle.fault_row.specs.declared.summary.Found.{Found}
-use Rattle.fault_row.specs.Faults.{FaultsPut}
+use Rattle.fault_row.specs.Flaws.{FlawsPut}
 use Rattle.fault_row.specs.Summary.{noSummary, sheetSummary}
-use Rattle.fault_text.specs.Meaning.{faultOf, GoodRow}
+use Rattle.fault_text.specs.Good.{Good}
 use Rattle.rule_sheet.specs.declared.ready.Ready.{Ready}
-use Rattle.rule_sheet.specs.Material.{materialFaults}
+use Rattle.rule_sheet.specs.Material.{materialFlaws}
 use Rattle.rule_sheet.specs.Tight.{tightBend}
-use Rattle.rule_sheet.specs.All.{unevenFault, isMeasured, formedFaults}
+use Rattle.rule_sheet.specs.All.{unevenFlaw, isMeasured, formedFlaws}
 
--- what is said of the material, in any part with this job that has a face
+-- what is said of the material of this job, in any part that has a face
 pub record MaterialPut (job : Job) (cells cells′ : List ℕ) (numbers numbers′ : List Float) (r : ℕ) : Type 0 where
   pub few : r ≤ 1
-  pub put : (t : Part) → job ≡ t .job → 0 < facesOf t → FaultsPut (faultOf t) (GoodRow t) 0 (materialFaults t) cells cells′ numbers numbers′ r
+  pub put : (t : Part) → 0 < facesOf t → FlawsPut (Good t) 0 (materialFlaws job) cells cells′ numbers numbers′ r
 
 -- readings, rounds and edges stand, and nothing else has changed
 pub record ReadyPut (s : List ℕ) (at : Regions) (words words′ : List ℕ) (reals reals′ : List Float) (r : Ready) : Type 0 where
@@ -54,13 +54,13 @@ pub record ReadyPut (s : List ℕ) (at : Regions) (words words′ : List ℕ) (r
 pub record TightPut (inner : Round) (outer : ℕ) (least : Float) (from : ℕ) (cells cells′ : List ℕ) (numbers numbers′ : List Float) (r : ℕ) : Type 0 where
   pub few : r ≤ from + 1
   pub put : (t : Part) → inner ≡ roundOf t (inner .face) → RoundBounds inner → inner .face < facesOf t → outer < facesOf t → NonNeg least → Within least 17179869184 →
-      FaultsPut (faultOf t) (GoodRow t) from (tightBend t least (inner .face) outer) cells cells′ numbers numbers′ r
+      FlawsPut (Good t) from (tightBend t least (inner .face) outer) cells cells′ numbers numbers′ r
 
 -- the fault of a part that is not one thickness, in any part of which this is measured
 pub record UnevenPut (found : Thickness) (from : ℕ) (cells cells′ : List ℕ) (numbers numbers′ : List Float) (r : ℕ) : Type 0 where
   pub few : r ≤ from + 1
   pub put : (s : List ℕ) → Checked s → ThicknessIs (partOf s) found → 1 ≤ found .kept → 0 < facesOf (partOf s) →
-      FaultsPut (faultOf (partOf s)) (GoodRow (partOf s)) from (unevenFault (partOf s) ∷ []) cells cells′ numbers numbers′ r
+      FlawsPut (Good (partOf s)) from (unevenFlaw (partOf s) ∷ []) cells cells′ numbers numbers′ r
 
 -- what is found of a part that can be formed
 unfoldable pub formedSummary : Part → Summary
@@ -68,7 +68,7 @@ formedSummary t = cond (isMeasured t && not (isUneven t)) (sheetSummary (thickne
 
 -- the rules that follow those on the material have put their faults after `from` others
 pub record FormedPut (s : List ℕ) (at : Regions) (from : ℕ) (words words′ : List ℕ) (reals reals′ : List Float) (cells cells′ : List ℕ) (numbers numbers′ : List Float) (r : Found) : Type 0 where
-  pub put : FaultsPut (faultOf (partOf s)) (GoodRow (partOf s)) from (formedFaults (partOf s)) cells cells′ numbers numbers′ (r .faults)
+  pub put : FlawsPut (Good (partOf s)) from (formedFlaws (partOf s)) cells cells′ numbers numbers′ (r .faults)
   pub few : r .faults ≤ 4194304
   pub summary : r .summary ≡ formedSummary (partOf s)
   pub standing : Standing s at words′ reals′

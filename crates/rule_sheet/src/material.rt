@@ -1,16 +1,9 @@
 // `No material` and `Material`.
 ghost use mathlib.Core.Path.{_≡_};
-ghost use Prim.Native.Nat.{_<_};
-ghost use Rattle.math.specs.Vector.{zero};
-ghost use Rattle.fault_row.specs.Row.{row, RowPut};
 ghost use Rattle.rule_sheet.specs.Material.{isMetal, isFormed, ratioOf};
 ghost use Rattle.rule_sheet.specs.Work.{MaterialPut};
-use fault_row::row::ERROR;
-use fault_row::row::FaultRow;
-use fault_row::row::NOTE;
-use fault_row::row::put_row;
-use fault_text::kind::MATERIAL;
-use fault_text::kind::NO_MATERIAL;
+use fault_row::flaw::Flaw;
+use fault_row::flaw::put_flaw;
 use file_job::Job;
 use file_job::MaterialClass;
 
@@ -45,34 +38,15 @@ pub fn ratio_of(job: Job) -> f64
     1.0
 }
 
-// The row that says so, after `from` others.
-fn put_plain(cells: &mut [u32], numbers: &mut [f64], from: usize, kind: u32, severity: u32) -> usize
-    requires { ⌜ from < 4294967296 ⌝ }
-    ensures { λ r. ⌜ RowPut from (row kind severity 1 0 0 0 zero zero zero) (now (cells .entry)) (now (cells .exit)) (now (numbers .entry)) (now (numbers .exit)) r ⌝ }
-{
-    let row = FaultRow {
-        kind: kind,
-        severity: severity,
-        count: 1,
-        a: 0,
-        b: 0,
-        waived: 0,
-        x: 0.0,
-        y: 0.0,
-        z: 0.0,
-    };
-    put_row(cells, numbers, from, row)
-}
-
 // What there is to say of the material. How many faults there are then.
 pub fn put_material(cells: &mut [u32], numbers: &mut [f64], job: Job) -> usize
     ensures { λ r. ⌜ MaterialPut job (now (cells .entry)) (now (cells .exit)) (now (numbers .entry)) (now (numbers .exit)) r ⌝ }
 {
     if !job.has_material {
-        return put_plain(cells, numbers, 0, NO_MATERIAL, NOTE);
+        return put_flaw(cells, numbers, 0, Flaw::NoMaterial);
     }
     if is_formed(job) {
         return 0;
     }
-    put_plain(cells, numbers, 0, MATERIAL, ERROR)
+    put_flaw(cells, numbers, 0, Flaw::Material)
 }

@@ -8,21 +8,19 @@ ghost use Rattle.scratch.specs.Standing.{Standing};
 ghost use Rattle.solid_ranks.specs.Kept.{Ranked};
 ghost use Rattle.measure_sizes.specs.Reading.{ReadingBounds};
 ghost use Rattle.sheet_bends.specs.Work.{SheetStands};
-ghost use Rattle.fault_row.specs.Faults.{FaultsPut};
-ghost use Rattle.fault_text.specs.Meaning.{faultOf, GoodRow};
-ghost use Rattle.rule_sheet.specs.All.{bentFaults, SheetPut};
+ghost use Rattle.fault_row.specs.Flaws.{FlawsPut};
+ghost use Rattle.fault_text.specs.Good.{Good};
+ghost use Rattle.rule_sheet.specs.All.{bentFlaws, SheetPut};
 ghost use Rattle.rule_sheet.specs.Work.{UnevenPut, FormedPut};
 use crate::material::is_formed;
 use crate::material::put_material;
 use crate::ready::make_ready;
 use crate::tight::put_tight_bends;
-use fault_row::row::ERROR;
-use fault_row::row::FaultRow;
-use fault_row::row::put_row;
+use fault_row::flaw::Flaw;
+use fault_row::flaw::put_flaw;
 use fault_row::summary::Found;
 use fault_row::summary::Summary;
 use fault_text::job::job_of;
-use fault_text::kind::NOT_ONE_THICKNESS;
 use rule_flanges::flanges::put_short_flanges;
 use rule_holes::holes::put_holes;
 use scratch::regions::Regions;
@@ -40,18 +38,8 @@ fn put_uneven(cells: &mut [u32], numbers: &mut [f64], from: usize, found: Thickn
     requires { ⌜ from < 4294967296 ⌝ }
     ensures { λ r. ⌜ UnevenPut found from (now (cells .entry)) (now (cells .exit)) (now (numbers .entry)) (now (numbers .exit)) r ⌝ }
 {
-    let row = FaultRow {
-        kind: NOT_ONE_THICKNESS,
-        severity: ERROR,
-        count: 1,
-        a: 0,
-        b: 0,
-        waived: 0,
-        x: found.thinnest,
-        y: found.thickest,
-        z: found.value,
-    };
-    put_row(cells, numbers, from, row)
+    let flaw = Flaw::NotOneThickness(found.thinnest, found.thickest, found.value);
+    put_flaw(cells, numbers, from, flaw)
 }
 
 // The bends, the flanges and the holes of a sheet. How many faults there are then.
@@ -65,7 +53,7 @@ fn put_bent(
     from: usize,
 ) -> usize
     requires { ⌜ SheetStands (now file) sheet (now words) (now reals) ⌝ ∗ ⌜ ReadingBounds (sheet .thickness) ⌝ ∗ ⌜ from ≤ 1 ⌝ }
-    ensures { λ r. ⌜ FaultsPut (faultOf (partOf (now (file .entry)))) (GoodRow (partOf (now (file .entry)))) from (bentFaults (partOf (now (file .entry))) (sheet .thickness)) (now (cells .entry)) (now (cells .exit)) (now (numbers .entry)) (now (numbers .exit)) r ⌝ ∗ ⌜ r ≤ 4194304 ⌝ }
+    ensures { λ r. ⌜ FlawsPut (Good (partOf (now (file .entry)))) from (bentFlaws (partOf (now (file .entry))) (sheet .thickness)) (now (cells .entry)) (now (cells .exit)) (now (numbers .entry)) (now (numbers .exit)) r ⌝ ∗ ⌜ r ≤ 4194304 ⌝ }
 {
     let a = put_tight_bends(file, words, reals, cells, numbers, sheet, from);
     let b = put_short_flanges(file, words, reals, cells, numbers, sheet, a);

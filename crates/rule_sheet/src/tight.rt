@@ -3,16 +3,14 @@ ghost use Prim.Native.Nat.{_+_, _≤_, _<_};
 ghost use Rattle.file_part.specs.Part.{partOf};
 ghost use Rattle.measure_sizes.specs.Reading.{ReadingBounds};
 ghost use Rattle.sheet_bends.specs.Work.{SheetStands};
-ghost use Rattle.fault_row.specs.Faults.{FaultsPut};
-ghost use Rattle.fault_text.specs.Meaning.{faultOf, GoodRow};
+ghost use Rattle.fault_row.specs.Flaws.{FlawsPut};
+ghost use Rattle.fault_text.specs.Good.{Good};
 ghost use Rattle.rule_sheet.specs.Tight.{tightBends};
 ghost use Rattle.rule_sheet.specs.Work.{TightPut};
 use crate::material::ratio_of;
-use fault_row::row::ERROR;
-use fault_row::row::FaultRow;
-use fault_row::row::put_row;
+use fault_row::flaw::Flaw;
+use fault_row::flaw::put_flaw;
 use fault_text::job::job_of;
-use fault_text::kind::TIGHT_BEND;
 use round_all::round::Round;
 use round_all::round::round_at;
 use sheet_bends::Sheet;
@@ -31,18 +29,8 @@ fn put_tight_bend(
     ensures { λ r. ⌜ TightPut inner outer least from (now (cells .entry)) (now (cells .exit)) (now (numbers .entry)) (now (numbers .exit)) r ⌝ }
 {
     if inner.radius + 1e-9 < least {
-        let row = FaultRow {
-            kind: TIGHT_BEND,
-            severity: ERROR,
-            count: 1,
-            a: inner.face as u32,
-            b: outer as u32,
-            waived: 0,
-            x: inner.radius,
-            y: least,
-            z: 0.0,
-        };
-        return put_row(cells, numbers, from, row);
+        let flaw = Flaw::TightBend(inner.face as u32, outer as u32, inner.radius, least);
+        return put_flaw(cells, numbers, from, flaw);
     }
     from
 }
@@ -58,7 +46,7 @@ pub fn put_tight_bends(
     from: usize,
 ) -> usize
     requires { ⌜ SheetStands (now file) sheet (now words) (now reals) ⌝ ∗ ⌜ ReadingBounds (sheet .thickness) ⌝ ∗ ⌜ from ≤ 1 ⌝ }
-    ensures { λ r. ⌜ FaultsPut (faultOf (partOf (now (file .entry)))) (GoodRow (partOf (now (file .entry)))) from (tightBends (partOf (now (file .entry))) (sheet .thickness)) (now (cells .entry)) (now (cells .exit)) (now (numbers .entry)) (now (numbers .exit)) r ⌝ ∗ ⌜ r ≤ from + 1024 ⌝ }
+    ensures { λ r. ⌜ FlawsPut (Good (partOf (now (file .entry)))) from (tightBends (partOf (now (file .entry))) (sheet .thickness)) (now (cells .entry)) (now (cells .exit)) (now (numbers .entry)) (now (numbers .exit)) r ⌝ ∗ ⌜ r ≤ from + 1024 ⌝ }
 {
     let at = sheet.edges.at;
     let n = sheet.edges.faces;

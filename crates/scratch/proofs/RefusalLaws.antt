@@ -6,6 +6,7 @@ use Prim.Native.Nat.{ℕ, _≤_}
 use lib.Dec.{ltb}
 use borrow.Author.Tests.{ltb-false}
 use Rattle.num_float.proofs.Tests.{or-false-left, or-false-right}
+use Rattle.refusal.specs.Numbers.{tooLittleScratch}
 use Rattle.file_ok.specs.declared.verdict.Verdict.{Verdict}
 use Rattle.file_ok.specs.Verdict.{number}
 use Rattle.file_ok.proofs.RefusalLaws.{earlier-is, earlier-none, passed}
@@ -20,7 +21,7 @@ unfolding bodyRefusal
 refusal-file s words reals x r e q other = earlier-is r (number (bodyVerdict s)) (tooLittle s words reals) (q ∙ ap number e) other
 
 pub refusal-cells : (s : List ℕ) (at : Regions) (words reals : ℕ) (b : Bool) → Placed s at → (ltb words (at .words) || ltb reals (at .reals)) ≡ b →
-    cond b 10 0 ≡ bodyRefusal s words reals
+    cond b tooLittleScratch 0 ≡ bodyRefusal s words reals
 unfolding bodyRefusal tooLittle Checked number
 refusal-cells s at words reals b h t = earlier-none _ _ b (rw (h .checked)) (rw (← h .polygons, ← h .vertices, ← h .laid .words, ← h .laid .reals, t))
 

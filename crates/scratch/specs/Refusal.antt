@@ -4,7 +4,7 @@ use mathlib.Core.List.{List}
 use Prim.Native.Nat.{ℕ}
 use lib.Dec.{ltb}
 use Rattle.file_part.specs.Layout.{vertexCount, polygonCount}
-use Rattle.file_ok.specs.Verdict.{number, orTen}
+use Rattle.file_ok.specs.Verdict.{number, orTooLittle}
 use Rattle.solid_faces.specs.Faces.{bodyVerdict}
 use Rattle.scratch.specs.Regions.{wordsNeeded, realsNeeded}
 
@@ -14,4 +14,4 @@ tooLittle s words reals = ltb words (wordsNeeded (polygonCount s) (vertexCount s
 
 -- refusals 1 to 9 by the file, then 10; 0 for none
 unfoldable pub bodyRefusal : List ℕ → ℕ → ℕ → ℕ
-bodyRefusal s words reals = orTen (number (bodyVerdict s)) (tooLittle s words reals)
+bodyRefusal s words reals = orTooLittle (number (bodyVerdict s)) (tooLittle s words reals)

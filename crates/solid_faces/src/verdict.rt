@@ -10,6 +10,7 @@ use file_part::read::first_vertex;
 use file_part::read::polygon_count;
 use file_part::read::run_length;
 use file_part::read::vertex_count;
+use refusal::ACCEPTED;
 use solid_polygon::polygon::is_flat;
 
 // Whether `Polygon::new` would refuse some polygon.
@@ -35,7 +36,7 @@ pub fn judge(file: &[u8]) -> Verdict
     ensures { λ r. ⌜ r ≡ bodyVerdict (now (file .entry)) ⌝ }
 {
     let verdict = file_ok::verdict::judge(file);
-    if verdict.refusal() != 0 {
+    if verdict.refusal() != ACCEPTED {
         return verdict;
     }
     if any_flat(file) {

@@ -19,9 +19,10 @@ use Rattle.fault_row.specs.declared.fault.Rule.the-variants.{DeepHole, ThinWall
 use Rattle.fault_row.specs.Fault.{fault}
 use Rattle.fault_text.specs.Job.{defaultMinWall, minWall}
 use Rattle.fault_text.specs.Text.{mmPlaces, mm}
-use Rattle.fault_text.specs.Machining.{thinWallText, deepHoleStandardText, thinWallFault, deepHoleStandardFault}
+use Rattle.fault_text.specs.Machining.{thinWallText, deepHoleStandardText}
+use Rattle.fault_text.specs.Told.{told, toldAll}
 use Rattle.fault_text.proofs.JobLaws.{min-wall-zero}
-use Rattle.rule_machining.specs.Machining.{wallSeverity, wallFault, deepHoles}
+use Rattle.rule_machining.specs.Machining.{wallSeverity, wallFlaw, deepHoles}
 
 -- ---- decimals
 -- 0.125 to two places is 0.12
@@ -101,20 +102,20 @@ root-of-minus-zero = refl
 
 -- ---- CNC minimum 0.8
 -- 0.4 is a Warning
-pub wall-at-half : (t : Part) (f g : ℕ) → minWall t ≡ defaultMinWall → wallFault t f g (ofBits binary64 0x3FD999999999999A) ≡
+pub wall-at-half : (t : Part) (f g : ℕ) → minWall t ≡ defaultMinWall → toldAll t (wallFlaw t f g (ofBits binary64 0x3FD999999999999A)) ≡
     fault Warning ThinWall (thinWallText t (ofBits binary64 0x3FD999999999999A)) (idOf t f ∷ idOf t g ∷ []) ∷ []
-unfolding wallFault wallSeverity thinWallFault
+unfolding wallFlaw wallSeverity toldAll told
 wall-at-half t f g e = rw e (unfold lt mul ofBits in refl)
 
 -- the next f64 below an Error
-pub wall-below-half : (t : Part) (f g : ℕ) → minWall t ≡ defaultMinWall → wallFault t f g (ofBits binary64 0x3FD9999999999999) ≡
+pub wall-below-half : (t : Part) (f g : ℕ) → minWall t ≡ defaultMinWall → toldAll t (wallFlaw t f g (ofBits binary64 0x3FD9999999999999)) ≡
     fault Error ThinWall (thinWallText t (ofBits binary64 0x3FD9999999999999)) (idOf t f ∷ idOf t g ∷ []) ∷ []
-unfolding wallFault wallSeverity thinWallFault
+unfolding wallFlaw wallSeverity toldAll told
 wall-below-half t f g e = rw e (unfold lt mul ofBits in refl)
 
 -- 0.8 gives none
-pub wall-at-minimum : (t : Part) (f g : ℕ) → minWall t ≡ defaultMinWall → wallFault t f g (ofBits binary64 0x3FE999999999999A) ≡ []
-unfolding wallFault
+pub wall-at-minimum : (t : Part) (f g : ℕ) → minWall t ≡ defaultMinWall → wallFlaw t f g (ofBits binary64 0x3FE999999999999A) ≡ []
+unfolding wallFlaw
 wall-at-minimum t f g e = rw e (unfold lt ofBits in refl)
 
 -- material min_wall 0 counts as 0.8
@@ -123,12 +124,12 @@ min-wall-of-zero t e = min-wall-zero t e
 
 -- ---- hole length over diameter
 -- 10 is a Note
-pub hole-ten-deep : (t : Part) (r : Round) → ratioOf r ≡ ofBits binary64 0x4024000000000000 → deepHoles t r ≡
+pub hole-ten-deep : (t : Part) (r : Round) → ratioOf r ≡ ofBits binary64 0x4024000000000000 → toldAll t (deepHoles r) ≡
     fault Note DeepHole (deepHoleStandardText (ofBits binary64 0x4024000000000000)) (idOf t (r .face) ∷ []) ∷ []
-unfolding deepHoles deepHoleStandardFault
+unfolding deepHoles toldAll told
 hole-ten-deep t r e = rw e (unfold lt ofBits in refl)
 
 -- 4 none
-pub hole-four-deep : (t : Part) (r : Round) → ratioOf r ≡ ofBits binary64 0x4010000000000000 → deepHoles t r ≡ []
+pub hole-four-deep : (r : Round) → ratioOf r ≡ ofBits binary64 0x4010000000000000 → deepHoles r ≡ []
 unfolding deepHoles
-hole-four-deep t r e = rw e (unfold lt ofBits in refl)
+hole-four-deep r e = rw e (unfold lt ofBits in refl)

@@ -5,10 +5,10 @@ use Rattle.print_walls.proofs.put_floor.Statement.{statement}
 use Rattle.print_walls.proofs.put_floor.Tie as tie
 
 returns : tie.Need-returns
-returns c = floor-layer (c .before .before .before .before .before .before .before .before .before .if1 .taken) (c .before .before .before .before .before .before .before .before .if2 .taken) (c .before .before .before .before .before .before .before .wall-row .ensures) (c .before .before .before .before .put-row .ensures)
+returns c = floor-layer (c .before .before .before .before .before .before .before .before .before .before .if1 .taken) (c .before .before .before .before .before .before .before .before .before .if2 .taken) (c .before .before .before .before .put-flaw .ensures)
 
 returns-2 : tie.Need-returns-2
-returns-2 c = floor-few (c .before .before .before .before .before .before .before .before .before .if1 .taken) (c .before .before .before .before .before .before .before .before .if2 .left) (c .before .before .before .before .before .before .before .wall-row2 .ensures) (c .before .before .before .before .put-row2 .ensures)
+returns-2 c = floor-few (c .before .before .before .before .before .before .before .before .before .before .if1 .taken) (c .before .before .before .before .before .before .before .before .before .if2 .left) (c .before .before .before .before .put-flaw2 .ensures)
 
 returns-3 : tie.Need-returns-3
 returns-3 c = floor-none (c .if1 .left)
@@ -17,12 +17,14 @@ pub put-floor-spec : {M : Type 1} → statement M
 put-floor-spec =
     tie.close
     (tie.spec
-    (λ c κs. search needs)
+    (λ c. search needs)
+    (λ c. search needs)
     (λ c κs. search needs)
     (λ c. search needs)
     (λ c. search needs)
     returns
-    (λ c κs. search needs)
+    (λ c. search needs)
+    (λ c. search needs)
     (λ c κs. search needs)
     (λ c. search needs)
     (λ c. search needs)

@@ -38,6 +38,7 @@ answer-spec =
     slice-aggregate-check-with-3
     (λ c κs. search needs)
     (λ c κs. search needs)
+    (λ c κs. search needs)
     (λ c. search needs)
     (λ c. search needs)
     (λ c. search needs)

@@ -1,7 +1,7 @@
 -- `dfm_core::find::find` meets its contract: a case for each process.
 use borrow.Author.Needs.{needs}
 use mathlib.Core.Path.{refl, _∙_}
-use Rattle.dfm_core.specs.Faults.{faultsBy, summaryBy}
+use Rattle.dfm_core.specs.Faults.{flawsBy, summaryBy}
 use Rattle.dfm_core.specs.Work.{asksSegments}
 use Rattle.dfm_core.proofs.FoundLaws.{process-is, with-segments, found-none, found-machined, found-sheet, found-print}
 use native.Mathlib.Omega.{arith}
@@ -77,7 +77,7 @@ same-length-12 : tie.Need-same-length-12
 same-length-12 c = c .before .before .before .before .before .before .before .before .printing .ensures .put .numbers-kept .long
 
 returns-4 : tie.Need-returns-4
-unfolding faultsBy summaryBy
+unfolding flawsBy summaryBy
 returns-4 c = found-print _ _ _ _ _ _ _ _ _ _ _ (c .before .before .before .before .before .before .before .before .before .before .before .before .before .before .before .before .before .before .before .before .before .before .pre .1 .0) (c .before .before .before .before .before .before .before .before .before .before .before .before .before .before .before .before .if1 .left) _ _ (process-is _ _ _ (c .before .before .before .before .before .before .before .before .before .before .before .before .before .before .before .job-of .ensures) (c .before .before .before .before .before .before .before .before .before .before .before .before .before .enum-told3 .given .1)) refl refl (c .before .before .before .before .before .before .before .before .before .before .before .before .before .before .before .before .before .before .before .before .before .before .pre .1 .1) (c .before .before .before .before .before .before .before .before .printing .ensures)
 
 same-length-13 : tie.Need-same-length-13
@@ -93,7 +93,7 @@ same-length-16 : tie.Need-same-length-16
 same-length-16 c = c .before .before .before .before .before .before .before .before .printing2 .ensures .put .numbers-kept .long
 
 returns-5 : tie.Need-returns-5
-unfolding faultsBy summaryBy
+unfolding flawsBy summaryBy
 returns-5 c = found-print _ _ _ _ _ _ _ _ _ _ _ (c .before .before .before .before .before .before .before .before .before .before .before .before .before .before .before .before .before .before .before .before .before .before .pre .1 .0) (c .before .before .before .before .before .before .before .before .before .before .before .before .before .before .before .before .if1 .left) _ _ (process-is _ _ _ (c .before .before .before .before .before .before .before .before .before .before .before .before .before .before .before .job-of .ensures) (c .before .before .before .before .before .before .before .before .before .before .before .before .before .enum-told4 .given .1)) refl refl (c .before .before .before .before .before .before .before .before .before .before .before .before .before .before .before .before .before .before .before .before .before .before .pre .1 .1) (c .before .before .before .before .before .before .before .before .printing2 .ensures)
 
 same-length-17 : tie.Need-same-length-17
@@ -109,7 +109,7 @@ same-length-20 : tie.Need-same-length-20
 same-length-20 c = c .before .before .before .before .before .before .before .before .printing3 .ensures .put .numbers-kept .long
 
 returns-6 : tie.Need-returns-6
-unfolding faultsBy summaryBy
+unfolding flawsBy summaryBy
 returns-6 c = found-print _ _ _ _ _ _ _ _ _ _ _ (c .before .before .before .before .before .before .before .before .before .before .before .before .before .before .before .before .before .before .before .before .before .before .pre .1 .0) (c .before .before .before .before .before .before .before .before .before .before .before .before .before .before .before .before .if1 .left) _ _ (process-is _ _ _ (c .before .before .before .before .before .before .before .before .before .before .before .before .before .before .before .job-of .ensures) (c .before .before .before .before .before .before .before .before .before .before .before .before .before .enum-told5 .given .1)) refl refl (c .before .before .before .before .before .before .before .before .before .before .before .before .before .before .before .before .before .before .before .before .before .before .pre .1 .1) (c .before .before .before .before .before .before .before .before .printing3 .ensures)
 
 pub find-spec : {M : Type 1} → statement M

@@ -1,10 +1,10 @@
 -- `fault_merge::merge::join` meets its contract: its line has one fault more.
-use borrow.Author.Needs.{needs}
 use mathlib.Core.Path.{ap, _∙_}
 use Rattle.file_part.specs.Part.{partOf}
 use Rattle.fault_row.specs.declared.row.FaultRow.{FaultRow}
 use Rattle.fault_merge.proofs.LeadLaws.{lead-le}
 use Rattle.fault_merge.proofs.MergeLaws.{room-at, joined-at}
+use Rattle.fault_merge.proofs.RowLaws.{rows-count}
 use Rattle.fault_merge.proofs.RecallLaws.{merged-front}
 use native.Mathlib.Omega.{arith}
 use Rattle.fault_merge.proofs.merge.join.Statement.{statement}
@@ -37,7 +37,7 @@ add-requires c κs =
     let row = c .before .before .before .before .before .before .before .before .before .before .row-at in
     let place = c .before .before .before .before .before .place-of in
     let cells = c .before .before .before .put-cells in
-    let r = room-at (partOf (g .file .now)) (g .cells .now) (g .numbers .now) (g .i) (place .result .hash) (place .result .lead) (row .result .count) (g .work .now) (cells .last .0) (place .ensures .1) (p .1 .1 .1) (cells .ensures) (p .0 .few) (p .0 .good) (omega (arith, p .1 .0, p .1 .1 .0)) (ap (λ (r : FaultRow). r .count) (row .ensures)) in
+    let r = room-at (partOf (g .file .now)) (g .cells .now) (g .numbers .now) (g .i) (place .result .hash) (place .result .lead) (row .result .count) (g .work .now) (cells .last .0) (place .ensures .1) (p .1 .1 .1) (cells .ensures) (p .0 .few) (rows-count _ _ _ _ (p .0)) (omega (arith, p .1 .0, p .1 .1 .0)) (ap (λ (r : FaultRow). r .count) (row .ensures)) in
     (r .0, (r .1, r .2))
 
 remember-requires : tie.Need-remember-requires

@@ -7,7 +7,7 @@ use Rattle.fault_text.proofs.printing.put_not_closed.Tie as tie
 
 returns : tie.Need-returns
 unfolding notClosedText
-returns c = put-then _ _ (c .before .before .before .before .before .before .before .before .before .before .before .put-bytes .ensures) (put-then _ _ (c .before .before .before .before .before .before .before .put-decimal .ensures) (c .before .before .put-bytes2 .ensures))
+returns c = put-then _ _ (c .before .before .before .before .before .before .before .before .before .before .before .put-bytes .ensures) (put-then _ _ (c .before .before .before .before .before .before .before .put-number .ensures) (c .before .before .put-bytes2 .ensures))
 
 pub put-not-closed-spec : {M : Type 1} → statement M
 put-not-closed-spec =

@@ -11,22 +11,22 @@ add-need : tie.Need-add-need
 add-need c = omega (arith, c .before .before .before .before .before .before .before .pre .rows .few, c .before .before .before .before .before .before .before .pre .placed .laid .few)
 
 write-with-requires : tie.Need-write-with-requires
-write-with-requires c κs = (c .before .before .before .before .before .before .before .before .before .before .pre, omega (arith, c .before .before .if1 .taken))
+write-with-requires c κs = (c .before .before .before .before .before .before .before .before .before .before .before .pre, (omega (arith, c .before .before .before .if1 .taken), omega (arith, c .before .before .before .if1 .taken)))
 
 same-length : tie.Need-same-length
-same-length c = c .before .before .before .write-with .kept .1 .0
+same-length c = c .before .before .before .before .write-with .kept .1 .1 .0
 
 returns : tie.Need-returns
-returns c = c .before .before .before .write-with .ensures
+returns c = c .before .before .before .before .write-with .ensures
 
 write-with-requires-2 : tie.Need-write-with-requires-2
-write-with-requires-2 c κs = (c .before .before .before .before .before .before .before .before .before .before .pre, omega (arith, c .before .before .before .before .before .before .before .before .before .before .pre .rows .few, c .before .before .before .before .before .before .before .before .before .before .pre .placed .laid .few))
+write-with-requires-2 c κs = (c .before .before .before .before .before .before .before .before .before .before .before .pre, (omega (arith, c .before .before .before .before .before .before .before .before .before .before .before .pre .rows .few, c .before .before .before .before .before .before .before .before .before .before .before .pre .placed .laid .few), c .before .before .before .before .before .before .before .before .before .before .before .pre .rows .few))
 
 same-length-2 : tie.Need-same-length-2
-same-length-2 c = c .before .before .before .write-with2 .kept .1 .0
+same-length-2 c = c .before .before .before .before .write-with2 .kept .1 .1 .0
 
 returns-2 : tie.Need-returns-2
-returns-2 c = c .before .before .before .write-with2 .ensures
+returns-2 c = c .before .before .before .before .write-with2 .ensures
 
 pub write-report-spec : {M : Type 1} → statement M
 write-report-spec =
@@ -35,9 +35,11 @@ write-report-spec =
     mul-need
     add-need
     (λ c. search needs)
+    (λ c. search needs)
     write-with-requires
     same-length
     returns
+    (λ c. search needs)
     (λ c. search needs)
     write-with-requires-2
     same-length-2

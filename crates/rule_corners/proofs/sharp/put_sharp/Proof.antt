@@ -21,17 +21,17 @@ cast-t11 c = omega (arith, c .before .before .before .before .before .before .be
 cast-t12 : tie.Need-cast-t12
 cast-t12 c = omega (arith, c .before .before .before .before .before .before .before .before .before .before .before .pre .1 .second-below, checked-faces _ (c .before .before .before .before .before .before .before .before .before .before .before .pre .0 .standing .placed .checked))
 
-put-row-requires : tie.Need-put-row-requires
-put-row-requires c κs = c .before .before .before .before .before .before .before .before .before .before .before .before .before .before .pre .1 .few
+put-flaw-requires : tie.Need-put-flaw-requires
+put-flaw-requires c κs = c .before .before .before .before .before .before .before .before .before .before .before .before .before .before .pre .1 .few
 
 same-length : tie.Need-same-length
-same-length c = c .before .before .before .before .put-row .kept .0
+same-length c = c .before .before .before .before .put-flaw .kept .0
 
 same-length-2 : tie.Need-same-length-2
-same-length-2 c = c .before .before .before .before .put-row .kept .1 .0
+same-length-2 c = c .before .before .before .before .put-flaw .kept .1 .0
 
 returns-2 : tie.Need-returns-2
-returns-2 c = (sharp-one _ _ _ _ (c .before .before .before .before .before .before .before .before .before .before .before .before .before .before .before .before .before .before .before .pre .0) (c .before .before .before .before .before .before .before .before .before .before .before .before .before .before .before .before .before .before .before .pre .1) _ _ (c .before .before .before .before .before .before .before .before .before .before .before .before .corner-of .ensures) (c .before .before .before .before .before .before .before .before .before .before .before .is-reached .ensures) _ _ _ _ _ _ (c .before .before .before .before .before .before .before .before .before .before .if1 .left) (c .before .before .before .before .before .before .before .fillet-of .ensures) (c .before .before .before .before .put-row .ensures), omega (arith, c .before .before .before .before .put-row .ensures .count))
+returns-2 c = (sharp-one _ _ _ _ (c .before .before .before .before .before .before .before .before .before .before .before .before .before .before .before .before .before .before .before .pre .0) (c .before .before .before .before .before .before .before .before .before .before .before .before .before .before .before .before .before .before .before .pre .1) _ _ (c .before .before .before .before .before .before .before .before .before .before .before .before .corner-of .ensures) (c .before .before .before .before .before .before .before .before .before .before .before .is-reached .ensures) _ _ _ _ _ _ (c .before .before .before .before .before .before .before .before .before .before .if1 .left) (c .before .before .before .before .before .before .before .fillet-of .ensures) (c .before .before .before .before .put-flaw .ensures), omega (arith, c .before .before .before .before .put-flaw .ensures .count))
 
 pub put-sharp-spec : {M : Type 1} → statement M
 put-sharp-spec =
@@ -43,7 +43,7 @@ put-sharp-spec =
     cast-t11
     cast-t12
     (λ c κs. search needs)
-    put-row-requires
+    put-flaw-requires
     same-length
     same-length-2
     returns-2)

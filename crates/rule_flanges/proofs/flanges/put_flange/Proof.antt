@@ -6,14 +6,14 @@ use Rattle.rule_flanges.proofs.flanges.put_flange.Statement.{statement}
 use Rattle.rule_flanges.proofs.flanges.put_flange.Tie as tie
 
 same-length : tie.Need-same-length
-same-length c = c .before .before .before .before .put-row .ensures .cells-kept .long
+same-length c = c .before .before .before .before .put-flaw .ensures .cells-kept .long
 
 same-length-2 : tie.Need-same-length-2
-same-length-2 c = c .before .before .before .before .put-row .ensures .numbers-kept .long
+same-length-2 c = c .before .before .before .before .put-flaw .ensures .numbers-kept .long
 
 returns : tie.Need-returns
 unfolding minFlange
-returns c = flange-one _ _ _ _ (c .before .before .before .before .before .before .before .before .if1 .taken) (c .before .before .before .before .put-row .ensures)
+returns c = flange-one _ _ _ _ (c .before .before .before .before .before .before .before .before .if1 .taken) (c .before .before .before .before .put-flaw .ensures)
 
 returns-2 : tie.Need-returns-2
 unfolding minFlange

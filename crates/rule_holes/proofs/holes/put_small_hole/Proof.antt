@@ -7,7 +7,7 @@ use Rattle.rule_holes.proofs.holes.put_small_hole.Tie as tie
 
 returns : tie.Need-returns
 unfolding diameterOf
-returns c = small-one _ _ (c .before .before .before .before .before .before .before .before .if1 .taken) (c .before .before .before .before .put-row .ensures)
+returns c = small-one _ _ (c .before .before .before .before .before .before .before .before .if1 .taken) (c .before .before .before .before .put-flaw .ensures)
 
 returns-2 : tie.Need-returns-2
 unfolding diameterOf

@@ -1,4 +1,4 @@
--- `rule_machining::rounds::put_deep_corner` meets its contract: a row where the test of dfm.rs is met.
+-- `rule_machining::rounds::put_deep_corner` meets its contract: a flaw where the test of dfm.rs is met.
 use borrow.Author.Needs.{needs}
 use Rattle.measure_sizes.specs.Round.{diameterOf, ratioOf}
 use Rattle.rule_machining.proofs.RoundLaws.{deep-corner-one, deep-corner-none}
@@ -7,7 +7,7 @@ use Rattle.rule_machining.proofs.rounds.put_deep_corner.Tie as tie
 
 returns : tie.Need-returns
 unfolding diameterOf ratioOf
-returns c = deep-corner-one (c .before .before .before .before .before .before .before .before .if1 .taken) (c .before .before .before .before .put-row .ensures)
+returns c = deep-corner-one (c .before .before .before .before .before .before .before .before .if1 .taken) (c .before .before .before .before .put-flaw .ensures)
 
 returns-2 : tie.Need-returns-2
 unfolding diameterOf ratioOf

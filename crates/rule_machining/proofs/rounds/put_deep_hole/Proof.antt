@@ -1,4 +1,4 @@
--- `rule_machining::rounds::put_deep_hole` meets its contract: a row where a test of dfm.rs is met.
+-- `rule_machining::rounds::put_deep_hole` meets its contract: a flaw where a test of dfm.rs is met.
 use borrow.Author.Needs.{needs}
 use Rattle.measure_sizes.specs.Round.{diameterOf, ratioOf}
 use Rattle.rule_machining.proofs.RoundLaws.{deep-hole-max-one, deep-hole-standard-one, deep-hole-none}
@@ -7,11 +7,11 @@ use Rattle.rule_machining.proofs.rounds.put_deep_hole.Tie as tie
 
 returns : tie.Need-returns
 unfolding diameterOf ratioOf
-returns c = deep-hole-max-one (c .before .before .before .before .before .before .before .before .if1 .taken) (c .before .before .before .before .put-row .ensures)
+returns c = deep-hole-max-one (c .before .before .before .before .before .before .before .before .if1 .taken) (c .before .before .before .before .put-flaw .ensures)
 
 returns-2 : tie.Need-returns-2
 unfolding diameterOf ratioOf
-returns-2 c = deep-hole-standard-one (c .before .before .before .before .before .before .before .before .before .if1 .left) (c .before .before .before .before .before .before .before .before .if2 .taken) (c .before .before .before .before .put-row2 .ensures)
+returns-2 c = deep-hole-standard-one (c .before .before .before .before .before .before .before .before .before .if1 .left) (c .before .before .before .before .before .before .before .before .if2 .taken) (c .before .before .before .before .put-flaw2 .ensures)
 
 returns-3 : tie.Need-returns-3
 unfolding diameterOf ratioOf

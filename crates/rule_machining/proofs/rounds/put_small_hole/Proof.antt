@@ -1,4 +1,4 @@
--- `rule_machining::rounds::put_small_hole` meets its contract: a row where the test of dfm.rs is met.
+-- `rule_machining::rounds::put_small_hole` meets its contract: a flaw where the test of dfm.rs is met.
 use borrow.Author.Needs.{needs}
 use Rattle.measure_sizes.specs.Round.{diameterOf}
 use Rattle.rule_machining.proofs.RoundLaws.{small-hole-one, small-hole-none}
@@ -7,7 +7,7 @@ use Rattle.rule_machining.proofs.rounds.put_small_hole.Tie as tie
 
 returns : tie.Need-returns
 unfolding diameterOf
-returns c = small-hole-one (c .before .before .before .before .before .before .before .before .if1 .taken) (c .before .before .before .before .put-row .ensures)
+returns c = small-hole-one (c .before .before .before .before .before .before .before .before .if1 .taken) (c .before .before .before .before .put-flaw .ensures)
 
 returns-2 : tie.Need-returns-2
 unfolding diameterOf

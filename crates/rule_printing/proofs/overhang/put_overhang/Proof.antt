@@ -10,8 +10,8 @@ returns c = overhang-none _ (c .if1 .taken)
 cast-t7 : tie.Need-cast-t7
 cast-t7 c = search needs
 
-put-row-requires : tie.Need-put-row-requires
-put-row-requires c κs = search needs
+put-flaw-requires : tie.Need-put-flaw-requires
+put-flaw-requires c κs = search needs
 
 same-length : tie.Need-same-length
 same-length c = search needs
@@ -20,7 +20,7 @@ same-length-2 : tie.Need-same-length-2
 same-length-2 c = search needs
 
 returns-2 : tie.Need-returns-2
-returns-2 c = overhang-one _ (c .before .before .before .before .before .before .before .before .if1 .left) (c .before .before .before .before .put-row .ensures)
+returns-2 c = overhang-one _ (c .before .before .before .before .before .before .before .before .if1 .left) (c .before .before .before .before .put-flaw .ensures)
 
 pub put-overhang-spec : {M : Type 1} → statement M
 put-overhang-spec =
@@ -28,7 +28,7 @@ put-overhang-spec =
     (tie.spec
     returns
     cast-t7
-    put-row-requires
+    put-flaw-requires
     same-length
     same-length-2
     returns-2)

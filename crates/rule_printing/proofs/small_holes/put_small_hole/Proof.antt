@@ -8,8 +8,8 @@ use Rattle.rule_printing.proofs.small_holes.put_small_hole.Tie as tie
 cast-t10 : tie.Need-cast-t10
 cast-t10 c = search needs
 
-put-row-requires : tie.Need-put-row-requires
-put-row-requires c κs = search needs
+put-flaw-requires : tie.Need-put-flaw-requires
+put-flaw-requires c κs = search needs
 
 same-length : tie.Need-same-length
 same-length c = search needs
@@ -19,7 +19,7 @@ same-length-2 c = search needs
 
 returns : tie.Need-returns
 unfolding diameterOf
-returns c = hole-one _ _ (c .before .before .before .before .before .before .before .before .if1 .taken) (c .before .before .before .before .put-row .ensures)
+returns c = hole-one _ _ (c .before .before .before .before .before .before .before .before .if1 .taken) (c .before .before .before .before .put-flaw .ensures)
 
 returns-2 : tie.Need-returns-2
 unfolding diameterOf
@@ -30,7 +30,7 @@ put-small-hole-spec =
     tie.close
     (tie.spec
     cast-t10
-    put-row-requires
+    put-flaw-requires
     same-length
     same-length-2
     returns

@@ -6,8 +6,8 @@ use Rattle.rule_sheet.proofs.MaterialLaws.{material-none, no-material-p
 use Rattle.rule_sheet.proofs.material.put_material.Statement.{statement}
 use Rattle.rule_sheet.proofs.material.put_material.Tie as tie
 
-put-plain-requires : tie.Need-put-plain-requires
-put-plain-requires c κs = search needs
+put-flaw-requires : tie.Need-put-flaw-requires
+put-flaw-requires c κs = search needs
 
 same-length : tie.Need-same-length
 same-length c = search needs
@@ -16,7 +16,7 @@ same-length-2 : tie.Need-same-length-2
 same-length-2 c = search needs
 
 returns : tie.Need-returns
-returns c = no-material-put _ (not-true _ (c .before .before .before .before .before .before .before .if1 .taken)) (c .before .before .before .before .put-plain .ensures)
+returns c = no-material-put _ (not-true _ (c .before .before .before .before .before .before .before .if1 .taken)) (c .before .before .before .before .put-flaw .ensures)
 
 is-formed-requires : tie.Need-is-formed-requires
 is-formed-requires c κs = search needs
@@ -24,8 +24,8 @@ is-formed-requires c κs = search needs
 returns-2 : tie.Need-returns-2
 returns-2 c = material-none _ (not-false _ (c .before .before .if1 .left)) (sym (c .before .is-formed .ensures) ∙ c .if2 .taken)
 
-put-plain-requires-2 : tie.Need-put-plain-requires-2
-put-plain-requires-2 c κs = search needs
+put-flaw-requires-2 : tie.Need-put-flaw-requires-2
+put-flaw-requires-2 c κs = search needs
 
 same-length-3 : tie.Need-same-length-3
 same-length-3 c = search needs
@@ -34,19 +34,19 @@ same-length-4 : tie.Need-same-length-4
 same-length-4 c = search needs
 
 returns-3 : tie.Need-returns-3
-returns-3 c = material-put _ (not-false _ (c .before .before .before .before .before .before .before .before .before .if1 .left)) (sym (c .before .before .before .before .before .before .before .before .is-formed .ensures) ∙ c .before .before .before .before .before .before .before .if2 .left) (c .before .before .before .before .put-plain2 .ensures)
+returns-3 c = material-put _ (not-false _ (c .before .before .before .before .before .before .before .before .before .if1 .left)) (sym (c .before .before .before .before .before .before .before .before .is-formed .ensures) ∙ c .before .before .before .before .before .before .before .if2 .left) (c .before .before .before .before .put-flaw2 .ensures)
 
 pub put-material-spec : {M : Type 1} → statement M
 put-material-spec =
     tie.close
     (tie.spec
-    put-plain-requires
+    put-flaw-requires
     same-length
     same-length-2
     returns
     is-formed-requires
     returns-2
-    put-plain-requires-2
+    put-flaw-requires-2
     same-length-3
     same-length-4
     returns-3)

@@ -10,8 +10,8 @@ cast-t10 c = search needs
 cast-t11 : tie.Need-cast-t11
 cast-t11 c = search needs
 
-put-row-requires : tie.Need-put-row-requires
-put-row-requires c κs = search needs
+put-flaw-requires : tie.Need-put-flaw-requires
+put-flaw-requires c κs = search needs
 
 same-length : tie.Need-same-length
 same-length c = search needs
@@ -20,7 +20,7 @@ same-length-2 : tie.Need-same-length-2
 same-length-2 c = search needs
 
 returns : tie.Need-returns
-returns c = tight-one (c .before .before .before .before .before .before .before .before .if1 .taken) (c .before .before .before .before .put-row .ensures)
+returns c = tight-one (c .before .before .before .before .before .before .before .before .if1 .taken) (c .before .before .before .before .put-flaw .ensures)
 
 returns-2 : tie.Need-returns-2
 returns-2 c = tight-none (c .if1 .left)
@@ -31,7 +31,7 @@ put-tight-bend-spec =
     (tie.spec
     cast-t10
     cast-t11
-    put-row-requires
+    put-flaw-requires
     same-length
     same-length-2
     returns

@@ -1,0 +1,2 @@
+-- From an answer to the bytes that are printed of it.
+pub mod PrintLaws
