@@ -6,7 +6,7 @@ use refusal::{REPORT_TOO_LONG, TOO_LITTLE_SCRATCH};
 use report::report::Written;
 
 // What the check of a part answers. Its numbers: specs/Answer.antt.
-#[derive(Drop)]
+#[derive(Clone, Copy)]
 pub enum Answer {
     // The report stands in so many bytes.
     Accepted { length: usize },

@@ -17,7 +17,7 @@ use scratch::regions::Regions;
 use scratch::verdict::body_refusal;
 
 // What the first half leaves beside the rows.
-#[derive(Drop)]
+#[derive(Clone, Copy)]
 pub struct Findings {
     // The number of a refusal from 1 to 11; 0 for none.
     pub refusal: u32,

@@ -83,7 +83,7 @@ fn add(work: &mut [u32], lead: usize, count: u32)
 }
 
 // The hash of a fault's text, and the lowest fault of its line.
-#[derive(Drop)]
+#[derive(Clone, Copy)]
 struct Place {
     hash: u32,
     lead: usize,

@@ -1,7 +1,7 @@
 // The severities and the rules of faults.
 
 // The worst first.
-#[derive(Drop)]
+#[derive(Clone, Copy)]
 pub enum Severity {
     // Cannot be made as drawn, or will likely fail.
     Error,
@@ -12,7 +12,7 @@ pub enum Severity {
 }
 
 // The rules of all processes, in the byte order of their names.
-#[derive(Drop)]
+#[derive(Clone, Copy)]
 pub enum Rule {
     DeepHole,
     DeepInsideCorner,

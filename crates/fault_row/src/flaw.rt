@@ -9,7 +9,7 @@ use crate::fault::Severity;
 use crate::row::{FaultRow, put_row, row_at};
 
 // One for each message of dfm.rs, in its order: the faces f and g by their numbers, and the numbers that the message prints and the job does not give.
-#[derive(Drop)]
+#[derive(Clone, Copy)]
 pub enum Flaw {
     // ---- machining
     // severity, f, g, thickness

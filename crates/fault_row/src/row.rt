@@ -4,7 +4,7 @@ ghost use Rattle.fault_row.specs.Row.{row_at_of, row_room, RowPut};
 
 // What is kept of a fault, so that its text and its faces follow from the row and the part. A row of zeros is no fault. 48 bytes, for C too.
 #[repr(C)]
-#[derive(Drop)]
+#[derive(Clone, Copy)]
 pub struct FaultRow {
     // The rule and the message, from 1 on.
     pub kind: u32,

@@ -3,7 +3,7 @@ ghost use Rattle.std.specs.Prelude.{◌≡◌};
 ghost use Rattle.fault_row.specs.Summary.{no_summary, sheet_summary, print_summary};
 
 // The thickness of a sheet and its bends, and the height of a print, each with whether there is one.
-#[derive(Drop)]
+#[derive(Clone, Copy)]
 pub struct Summary {
     pub has_thickness: bool,
     pub thickness: f64,
@@ -54,7 +54,7 @@ impl Summary {
 }
 
 // How many faults there are, and the summary.
-#[derive(Drop)]
+#[derive(Clone, Copy)]
 pub struct Found {
     pub faults: usize,
     pub summary: Summary,

@@ -6,7 +6,7 @@ ghost use Rattle.file_job.specs.Work.{is_printing};
 use file_field::read::{f64_at, u32_at, vec_at};
 use math::Vec3;
 
-#[derive(Drop)]
+#[derive(Clone, Copy)]
 pub enum Process {
     CncMachining,
     SheetMetal,
@@ -18,14 +18,14 @@ pub enum Process {
     Sls,
 }
 
-#[derive(Drop)]
+#[derive(Clone, Copy)]
 pub enum MaterialClass {
     Metal,
     Plastic,
 }
 
 // The fields of material.rs that the check uses. The name's bytes stay in the file.
-#[derive(Drop)]
+#[derive(Clone, Copy)]
 pub struct Material {
     pub class: MaterialClass,
     // Thinnest wall worth machining, mm.
@@ -37,7 +37,7 @@ pub struct Material {
 }
 
 // The printer that the 3D printing checks are made for.
-#[derive(Drop)]
+#[derive(Clone, Copy)]
 pub struct PrintSettings {
     pub up: Vec3,
     // Layer height, mm.
@@ -52,7 +52,7 @@ pub struct PrintSettings {
     pub overhang: u32,
 }
 
-#[derive(Drop)]
+#[derive(Clone, Copy)]
 pub struct Job {
     pub process: Process,
     pub print: PrintSettings,

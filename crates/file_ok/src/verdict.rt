@@ -14,7 +14,7 @@ use refusal::{
 
 // What is wrong with a part file, or nothing: 1 to 9 of the table in this order. The last two are found from the planes and the faces, by
 // the crate above.
-#[derive(Drop)]
+#[derive(Clone, Copy)]
 pub enum Verdict {
     Accepted,
     TooShort,

@@ -8,13 +8,13 @@ use file_field::read::{f64_at, u32_at, vec_at};
 use math::Vec3;
 
 // The name of a face: the feature that made it and its number there.
-#[derive(Drop)]
+#[derive(Clone, Copy)]
 pub struct FaceId {
     pub feature: u32,
     pub index: u32,
 }
 
-#[derive(Drop)]
+#[derive(Clone, Copy)]
 pub enum SurfaceKind {
     Plane,
     Cylinder {

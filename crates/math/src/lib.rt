@@ -2,7 +2,7 @@
 ghost use Rattle.std.specs.Prelude.{◌≡◌};
 ghost use Rattle.math.specs.Vector.{plus, minus, times, over, opposite, dot_of, cross_of, length_sq_of, length_of, distance_of, normalized_of, perpendicular_of, low_of, high_of};
 
-#[derive(Drop)]
+#[derive(Clone, Copy)]
 pub struct Vec3 {
     pub x: f64,
     pub y: f64,

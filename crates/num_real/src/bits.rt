@@ -25,7 +25,7 @@ pub fn to_bits(x: f64) -> u64
 }
 
 // The size of a finite float: digits * 2^shift times the smallest positive f64, 2^-1074.
-#[derive(Drop)]
+#[derive(Clone, Copy)]
 pub struct Binary {
     pub digits: u64,
     pub shift: u64,

@@ -123,7 +123,7 @@ fn positive(q: u64, e: u64) -> u64
 }
 
 // A positive number as q * 2^e such units, with 53 digits in q.
-#[derive(Drop)]
+#[derive(Clone, Copy)]
 struct Parts {
     q: u64,
     e: u64,

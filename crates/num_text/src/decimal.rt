@@ -11,7 +11,7 @@ ghost use Rattle.num_text.specs.Put.{Put};
 const LIMIT: f64 = 1152921504606846976.0;
 
 // How the decimal writer ends: with so many bytes written, or none.
-#[derive(Drop)]
+#[derive(Clone, Copy)]
 pub enum Answer {
     Written(usize),
     Refused,
@@ -43,7 +43,7 @@ fn nearest_shift(v: u64, s: u64) -> u64
 }
 
 // A rounded decimal: the whole number before the point, and the digits after it as a number.
-#[derive(Drop)]
+#[derive(Clone, Copy)]
 struct Parts {
     whole: u64,
     part: u64,

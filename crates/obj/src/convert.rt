@@ -8,7 +8,7 @@ use obj_text::judge::{Tally, judge};
 use refusal::{ACCEPTED, BAD_JOB, OUTPUT_TOO_SHORT, TOO_LARGE};
 
 // How long the file is that was written, or the number of the refusal: 14, 15, 3, 5 or 16.
-#[derive(Drop)]
+#[derive(Clone, Copy)]
 pub enum Converted {
     Written(usize),
     Refused(u32),

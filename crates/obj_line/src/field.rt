@@ -5,7 +5,7 @@ ghost use Rattle.obj_line.specs.Work.{spaces_of, Next};
 use obj_number::cut::find;
 
 // Where a field begins and ends.
-#[derive(Drop)]
+#[derive(Clone, Copy)]
 pub struct Span {
     pub from: usize,
     pub to: usize,

@@ -10,14 +10,14 @@ use obj_number::decimal::{Real, decimal};
 use obj_number::whole::{Number, whole};
 
 // The vertex numbers of a face: how many, and the largest, up to 2^63.
-#[derive(Drop)]
+#[derive(Clone, Copy)]
 pub struct Corners {
     pub count: usize,
     pub largest: u64,
 }
 
 // A line: a vertex, a face, a face index, one to skip, or of any other form.
-#[derive(Drop)]
+#[derive(Clone, Copy)]
 pub enum Line {
     Vertex(Vec3),
     Face(Corners),

@@ -9,7 +9,7 @@ use crate::cut::find;
 use crate::whole::{Number, digits};
 
 // A decimal's f64, or bytes that are no decimal.
-#[derive(Drop)]
+#[derive(Clone, Copy)]
 pub enum Real {
     Is(f64),
     Not,

@@ -6,7 +6,7 @@ ghost use Rattle.obj_number.specs.Whole.{is_digit, capped, digits_field, whole_f
 const CAP: u64 = 0x8000_0000_0000_0000;
 
 // A whole number up to the cap, or bytes that are none.
-#[derive(Drop)]
+#[derive(Clone, Copy)]
 pub enum Number {
     Is(u64),
     Not,

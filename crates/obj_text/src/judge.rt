@@ -10,7 +10,7 @@ use refusal::{ACCEPTED, BAD_LINE, UNDEFINED_VERTEX};
 
 // The refusal, 0 for none; how many vertices are defined; how many corners and polygons there are, up to one more than a part file can hold;
 // and the face index in use.
-#[derive(Drop)]
+#[derive(Clone, Copy)]
 pub struct Tally {
     pub refusal: u32,
     pub defined: usize,

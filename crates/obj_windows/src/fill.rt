@@ -12,7 +12,7 @@ use obj_line::line::{Line, read_vertex};
 use obj_number::cut::find;
 
 // How far lines were passed: the place after them, and how many vertices they define.
-#[derive(Drop)]
+#[derive(Clone, Copy)]
 pub struct Place {
     pub at: usize,
     pub count: u64,

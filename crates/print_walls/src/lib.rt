@@ -25,14 +25,14 @@ use wall_pairs::{Counts, NextWall, next_wall};
 use wall_samples::sample::{Sample, sample_at};
 
 // The thinnest reading so far between two faces, and whether it goes through layers.
-#[derive(Drop)]
+#[derive(Clone, Copy)]
 pub struct Thinnest {
     pub thickness: f64,
     pub stacked: bool,
 }
 
 // What the rule is given of a part that stands in the scratch: where, how many faces and readings it has, and how many faults came before.
-#[derive(Drop)]
+#[derive(Clone, Copy)]
 pub struct Given {
     pub at: Regions,
     pub counts: Counts,

@@ -21,7 +21,7 @@ const REALS: usize = 7_456;
 const REPORT: usize = 65_536;
 
 // How much of each slice is lent.
-#[derive(Drop)]
+#[derive(Clone, Copy)]
 struct Lent {
     words: usize,
     reals: usize,

@@ -18,7 +18,7 @@ use report_faces::links::put_links;
 use report_faces::marks::Listing;
 
 // How a report ends: written with so many bytes, or not at all.
-#[derive(Drop)]
+#[derive(Clone, Copy)]
 pub enum Written {
     Bytes(usize),
     TooLong,

@@ -4,7 +4,7 @@ ghost use Rattle.report_faces.specs.Named.{named_of, named_at, is_many};
 
 use fault_row::flaw::{Flaw, flaw_at};
 
-#[derive(Drop)]
+#[derive(Clone, Copy)]
 pub enum Named {
     NoFace,
     // faces by their numbers

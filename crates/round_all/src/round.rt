@@ -27,7 +27,7 @@ use round_frame::votes::face_votes;
 use scratch::regions::Regions;
 
 // A face whose surface is a cylinder.
-#[derive(Drop)]
+#[derive(Clone, Copy)]
 pub struct Round {
     pub face: usize,
     pub origin: Vec3,

@@ -15,7 +15,7 @@ use file_part::read::{entry_at, first_vertex, polygon_count, run_length, vertex_
 use num_real::select::{max, min};
 
 // The lowest and the highest height.
-#[derive(Drop)]
+#[derive(Clone, Copy)]
 pub struct Extent {
     pub lo: f64,
     pub hi: f64,

@@ -4,7 +4,7 @@ ghost use Rattle.round_frame.specs.Frame.{frame_of, height_of, vote_of};
 
 use math::Vec3;
 
-#[derive(Drop)]
+#[derive(Clone, Copy)]
 pub struct Frame {
     pub origin: Vec3,
     pub axis: Vec3,

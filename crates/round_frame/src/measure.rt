@@ -8,7 +8,7 @@ use crate::extent::Extent;
 use crate::frame::Frame;
 use math::Vec3;
 
-#[derive(Drop)]
+#[derive(Clone, Copy)]
 pub struct Measure {
     pub axis: Vec3,
     pub length: f64,

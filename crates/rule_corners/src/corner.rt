@@ -20,14 +20,14 @@ use solid_pairs::pair_of;
 use wall_ray::strike::plane_at;
 
 // How many faces and corners a part has.
-#[derive(Drop)]
+#[derive(Clone, Copy)]
 pub struct Counts {
     pub faces: usize,
     pub corners: usize,
 }
 
 // The turn of a segment: the number of faces, the segment, and how many corners come before it.
-#[derive(Drop)]
+#[derive(Clone, Copy)]
 struct Turn {
     faces: usize,
     side: usize,
@@ -118,7 +118,7 @@ fn side_at(file: &[u8], words: &[u32], reals: &[f64], at: Regions, j: usize) -> 
 }
 
 // Two faces with corners between them, the lower id first, and the place in the sorted corners where the next two start.
-#[derive(Drop)]
+#[derive(Clone, Copy)]
 pub struct NextCorner {
     pub first: usize,
     pub second: usize,
@@ -175,7 +175,7 @@ fn total_length(file: &[u8], words: &[u32], reals: &[f64], at: Regions, i: usize
 }
 
 // The normals of a segment's two polygons, that of the face of the lower id first.
-#[derive(Drop)]
+#[derive(Clone, Copy)]
 struct Two {
     low: Vec3,
     high: Vec3,
@@ -213,7 +213,7 @@ fn normals_of(file: &[u8], words: &[u32], reals: &[f64], at: Regions, s: usize) 
 }
 
 // The length of the corners between one pair of faces, the middle of the last, and the normals of the first, that of the lower id first.
-#[derive(Drop)]
+#[derive(Clone, Copy)]
 pub struct Corner {
     pub length: f64,
     pub mid: Vec3,

@@ -17,7 +17,7 @@ use wall_ray::strike::plane_at;
 use wall_samples::cast::centroid_of;
 
 // The two polygons of a segment: that of its first side, and that of its second.
-#[derive(Drop)]
+#[derive(Clone, Copy)]
 pub struct Sides {
     pub polygon: usize,
     pub beyond: usize,
@@ -142,7 +142,7 @@ fn is_inside(file: &[u8], words: &[u32], reals: &[f64], at: Regions, s: usize) -
 }
 
 // What a segment is: no corner, or one between two faces.
-#[derive(Drop)]
+#[derive(Clone, Copy)]
 pub enum Found {
     Corner { near: usize, far: usize },
     Nothing,

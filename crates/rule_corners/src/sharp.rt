@@ -38,7 +38,7 @@ fn fillet_of(length: f64) -> f64
 }
 
 // Two faces, the places of their corners in the order, and how many faults come before.
-#[derive(Drop)]
+#[derive(Clone, Copy)]
 struct Group {
     at: Regions,
     first: usize,
@@ -77,7 +77,7 @@ fn put_sharp(
 }
 
 // What the rule is told: the regions, the counts, and how many faults come before.
-#[derive(Drop)]
+#[derive(Clone, Copy)]
 pub struct Turn {
     pub at: Regions,
     pub counts: Counts,

@@ -18,7 +18,7 @@ use round_all::round::round_at;
 use sheet_bends::{Sheet, bend_at};
 
 // The turn of some legs of a bend: its inside face, how many legs it has, and how many faults came before.
-#[derive(Drop)]
+#[derive(Clone, Copy)]
 struct Turn {
     bend: usize,
     legs: usize,

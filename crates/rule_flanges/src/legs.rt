@@ -21,7 +21,7 @@ use solid_flat::{face_normal, is_flat};
 use solid_tours::tour::{Group, Places, face_places, item_at, next_group};
 
 // A flat face beside a face of a bend, and the side that is the first segment between them.
-#[derive(Drop)]
+#[derive(Clone, Copy)]
 pub struct Leg {
     pub bend: usize,
     pub face: usize,

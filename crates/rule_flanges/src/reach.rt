@@ -14,7 +14,7 @@ use math::Vec3;
 use num_real::select::max;
 
 // A bend line: a point on it, and its direction.
-#[derive(Drop)]
+#[derive(Clone, Copy)]
 pub struct Line {
     pub from: Vec3,
     pub along: Vec3,

@@ -18,7 +18,7 @@ use round_all::round::{Round, round_at};
 use sheet_bends::{Sheet, bend_radius, is_bend_face};
 
 // The least diameter of a hole, and the least distance of its edge from a bend and from anything else.
-#[derive(Drop)]
+#[derive(Clone, Copy)]
 struct Limits {
     hole: f64,
     bend: f64,
@@ -122,7 +122,7 @@ fn put_close(
 }
 
 // The turn of a hole: the sheet and its limits, and how many faults came before.
-#[derive(Drop)]
+#[derive(Clone, Copy)]
 struct Turn {
     sheet: Sheet,
     limits: Limits,

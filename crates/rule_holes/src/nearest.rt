@@ -19,14 +19,14 @@ use solid_tours::tour::{
 };
 
 // A face across an edge, and how far the edge is from the hole's.
-#[derive(Drop)]
+#[derive(Clone, Copy)]
 pub struct Gap {
     pub gap: f64,
     pub other: usize,
 }
 
 // The nearest so far, where one is found.
-#[derive(Drop)]
+#[derive(Clone, Copy)]
 pub struct Nearest {
     pub found: bool,
     pub gap: f64,

@@ -7,7 +7,7 @@ use scratch::regions::Regions;
 use wall_pairs::Counts;
 
 // What a rule is given of a part that stands in the scratch: where, how many faces and readings it has, and how many faults came before.
-#[derive(Drop)]
+#[derive(Clone, Copy)]
 pub struct Given {
     pub at: Regions,
     pub counts: Counts,

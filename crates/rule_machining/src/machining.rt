@@ -21,14 +21,14 @@ use wall_pairs::{Counts, order_walls};
 use wall_samples::store::put_samples;
 
 // A part that stands in the scratch: where, and how many faces it has.
-#[derive(Drop)]
+#[derive(Clone, Copy)]
 pub struct Body {
     pub at: Regions,
     pub faces: usize,
 }
 
 // How many readings a part has, and how many faults its walls.
-#[derive(Drop)]
+#[derive(Clone, Copy)]
 struct WallCounts {
     readings: usize,
     faults: usize,

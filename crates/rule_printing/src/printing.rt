@@ -31,14 +31,14 @@ use wall_pairs::{Counts, order_walls};
 use wall_samples::store::put_samples;
 
 // The build direction, and the lowest and the highest of a part along it.
-#[derive(Drop)]
+#[derive(Clone, Copy)]
 struct Upright {
     up: Vec3,
     heights: Extent,
 }
 
 // What a rule is given of a part that stands in the scratch: where, how many faces it has, and how many faults came before.
-#[derive(Drop)]
+#[derive(Clone, Copy)]
 struct Given {
     at: Regions,
     faces: usize,

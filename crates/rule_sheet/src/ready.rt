@@ -12,7 +12,7 @@ use solid_tours::order::order_edges;
 use wall_samples::store::put_samples;
 
 // How many readings there are, and how many items of edges.
-#[derive(Drop)]
+#[derive(Clone, Copy)]
 pub struct Ready {
     pub readings: usize,
     pub items: usize,

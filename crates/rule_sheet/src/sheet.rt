@@ -57,7 +57,7 @@ fn put_bent(
 }
 
 // What a part that can be formed is given: where it stands, how many faces it has, and how many faults came before.
-#[derive(Drop)]
+#[derive(Clone, Copy)]
 struct Given {
     at: Regions,
     faces: usize,

@@ -10,7 +10,7 @@ use file_part::read::{polygon_count, vertex_count};
 pub const SCANNED: usize = 16;
 
 // What a process asks for of a body past its faces, planes and areas: what it does not ask for is not computed.
-#[derive(Drop)]
+#[derive(Clone, Copy)]
 pub struct Stages {
     // the shared segments
     pub segments: bool,
@@ -19,7 +19,7 @@ pub struct Stages {
 }
 
 // For a part of so many polygons and vertices. What stands in each region: specs/Regions.antt.
-#[derive(Drop)]
+#[derive(Clone, Copy)]
 pub struct Regions {
     pub polygons: usize,
     pub vertices: usize,

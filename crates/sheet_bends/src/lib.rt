@@ -17,7 +17,7 @@ use scratch::regions::Regions;
 use solid_tours::tour::Edges;
 
 // A sheet whose edges, rounds and bends stand in the scratch.
-#[derive(Drop)]
+#[derive(Clone, Copy)]
 pub struct Sheet {
     pub edges: Edges,
     pub thickness: f64,

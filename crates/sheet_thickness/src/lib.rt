@@ -25,7 +25,7 @@ use wall_samples::sample::sample_at;
 
 // What is measured: how many readings are kept, by how far from the segments of their face; their median, the least and the greatest; and
 // whether more of the part than is allowed is off the median. Where none is kept the last four mean nothing.
-#[derive(Drop)]
+#[derive(Clone, Copy)]
 pub struct Thickness {
     pub kept: usize,
     pub limit: f64,
@@ -36,7 +36,7 @@ pub struct Thickness {
 }
 
 // The median of the readings that are kept, all their area, the least and the greatest.
-#[derive(Drop)]
+#[derive(Clone, Copy)]
 struct Middle {
     value: f64,
     total: f64,

@@ -8,7 +8,7 @@ ghost use Rattle.solid_boxes.specs.Work.{joined, Tidy};
 use math::Vec3;
 
 // The lowest and the highest coordinates of what lies in it.
-#[derive(Drop)]
+#[derive(Clone, Copy)]
 pub struct Bounds {
     pub lo: Vec3,
     pub hi: Vec3,

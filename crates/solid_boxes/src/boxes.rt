@@ -63,7 +63,7 @@ fn leaf_box(file: &[u8], vertices: usize, words: &[u32], a: usize, e: usize) -> 
 }
 
 // A node's box, and the node after all that is below it.
-#[derive(Drop)]
+#[derive(Clone, Copy)]
 struct Made {
     bounds: Bounds,
     skip: usize,

@@ -56,7 +56,7 @@ fn higher(a: f64, x: f64) -> f64 {
 }
 
 // How far keys reach on an axis.
-#[derive(Drop)]
+#[derive(Clone, Copy)]
 struct Extent {
     lo: f64,
     hi: f64,
@@ -72,7 +72,7 @@ impl Extent {
 }
 
 // Where places are split: keys below `mid` on the axis go first.
-#[derive(Drop)]
+#[derive(Clone, Copy)]
 struct Cut {
     axis: usize,
     mid: f64,

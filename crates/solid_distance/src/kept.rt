@@ -7,7 +7,7 @@ use crate::segment::fraction_along;
 use math::Vec3;
 
 // Where it starts, the way to its end, and the square of its length.
-#[derive(Drop)]
+#[derive(Clone, Copy)]
 pub struct Segment {
     pub start: Vec3,
     pub way: Vec3,

@@ -10,7 +10,7 @@ use file_part::read::vertex_count;
 use list_cells::cell;
 
 // A side seen as an edge: whether it is one, its own face and the face beyond. For a side that is no edge the faces mean nothing.
-#[derive(Drop)]
+#[derive(Clone, Copy)]
 pub struct Edge {
     pub is_edge: bool,
     pub near: usize,

@@ -11,7 +11,7 @@ use list_cells::cell;
 use scratch::regions::Regions;
 
 // Two faces, the lower id first. Keys rise as the pairs do, by the ids of the first and then of the second.
-#[derive(Drop)]
+#[derive(Clone, Copy)]
 pub struct FacePair {
     pub first: usize,
     pub second: usize,

@@ -8,7 +8,7 @@ use file_part::corner::corner;
 use math::Vec3;
 
 // normal . p = w for the points p of the plane.
-#[derive(Drop)]
+#[derive(Clone, Copy)]
 pub struct Plane {
     pub normal: Vec3,
     pub w: f64,

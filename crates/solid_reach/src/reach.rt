@@ -8,7 +8,7 @@ use math::Vec3;
 use solid_distance::kept::Segment;
 
 // Its lowest and its highest coordinates.
-#[derive(Drop)]
+#[derive(Clone, Copy)]
 pub struct Reach {
     pub lo: Vec3,
     pub hi: Vec3,

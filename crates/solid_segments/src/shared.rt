@@ -15,7 +15,7 @@ use file_part::read::{entry_at, first_vertex, polygon_count, run_length, vertex_
 use solid_keys::chains::pair_sides;
 
 // The vertices of a polygon: from `first` to before `end`.
-#[derive(Drop)]
+#[derive(Clone, Copy)]
 struct Run {
     first: usize,
     end: usize,

@@ -28,7 +28,7 @@ pub fn edge_key(a: usize, b: usize, n: usize) -> f64
 }
 
 // The turn of a side: the number of faces, the side, and how many items come before it.
-#[derive(Drop)]
+#[derive(Clone, Copy)]
 struct Turn {
     faces: usize,
     side: usize,

@@ -22,7 +22,7 @@ use solid_distance::kept::segment_at;
 use solid_edges::edge::leads_to;
 
 // The sorted edges of a part: where they stand, and how many faces and items there are.
-#[derive(Drop)]
+#[derive(Clone, Copy)]
 pub struct Edges {
     pub at: Regions,
     pub faces: usize,
@@ -30,14 +30,14 @@ pub struct Edges {
 }
 
 // Places of the order, from `start` to before `end`.
-#[derive(Drop)]
+#[derive(Clone, Copy)]
 pub struct Places {
     pub start: usize,
     pub end: usize,
 }
 
 // The edges between two faces: their places under the first.
-#[derive(Drop)]
+#[derive(Clone, Copy)]
 pub struct Group {
     pub face: usize,
     pub other: usize,

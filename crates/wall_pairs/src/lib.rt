@@ -19,14 +19,14 @@ use scratch::regions::Regions;
 use solid_pairs::{FacePair, pair_of};
 
 // How many faces and readings a part has.
-#[derive(Drop)]
+#[derive(Clone, Copy)]
 pub struct Counts {
     pub faces: usize,
     pub readings: usize,
 }
 
 // Two faces with readings between them, the lower id first, and the place in the sorted readings where the next two start.
-#[derive(Drop)]
+#[derive(Clone, Copy)]
 pub struct NextWall {
     pub first: usize,
     pub second: usize,

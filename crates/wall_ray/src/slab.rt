@@ -12,7 +12,7 @@ use solid_boxes::bounds::Bounds;
 use solid_boxes::own::run_box;
 
 // What is left of a ray, in lengths of its direction.
-#[derive(Drop)]
+#[derive(Clone, Copy)]
 pub struct Span {
     pub t0: f64,
     pub t1: f64,

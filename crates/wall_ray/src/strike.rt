@@ -13,14 +13,14 @@ use file_part::corner::corner;
 use math::Vec3;
 use solid_polygon::polygon::{Plane, next};
 
-#[derive(Drop)]
+#[derive(Clone, Copy)]
 pub struct Ray {
     pub origin: Vec3,
     pub dir: Vec3,
 }
 
 // What a ray strikes first: the polygon, and how far along the ray it is met, in lengths of the ray's direction.
-#[derive(Drop)]
+#[derive(Clone, Copy)]
 pub enum Hit {
     Nothing,
     At { polygon: usize, t: f64 },

@@ -20,7 +20,7 @@ use wall_ray::strike::{Hit, Ray, plane_at};
 use wall_tree::raycast::raycast;
 
 // The polygon that a ray starts from, the polygon that it hits, and how thick the part is between them.
-#[derive(Drop)]
+#[derive(Clone, Copy)]
 pub struct Reading {
     pub polygon: usize,
     pub hit: usize,

@@ -12,7 +12,7 @@ use scratch::regions::Regions;
 use wall_ray::strike::plane_at;
 
 // Faces are told by their numbers. The ray starts at `point`, the centroid of a polygon of `face` with this area and normal.
-#[derive(Drop)]
+#[derive(Clone, Copy)]
 pub struct Sample {
     pub face: usize,
     pub hit: usize,

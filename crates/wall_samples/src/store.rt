@@ -18,7 +18,7 @@ use wall_ray::strike::Hit;
 use wall_starts::{face_order, put_falling, share, total_area};
 
 // The turn of a face: how many rays it gets, and how many readings the faces before it have.
-#[derive(Drop)]
+#[derive(Clone, Copy)]
 struct Turn {
     face: usize,
     want: usize,

@@ -14,7 +14,7 @@ use wall_ray::strike::Ray;
 
 // origin and inv: the ray's start and inverse direction; the start is a NaN on an axis that tells nothing. x, y and z: which of a box's six numbers the
 // ray meets first on each axis.
-#[derive(Drop)]
+#[derive(Clone, Copy)]
 pub struct Aim {
     pub origin: Vec3,
     pub inv: Vec3,
