@@ -23,7 +23,7 @@ use Rattle.fault_lines.specs.Line.{Line}
 use Rattle.fault_lines.specs.Lines.{lines_of}
 use Rattle.fault_lines.proofs.Unique.{determined}
 use Rattle.fault_lines.proofs.Found.{listed}
-use Rattle.report.specs.Text.{report_text}
+use Rattle.dfm_core.specs.report.specs.Text.{report_text}
 use Rattle.dfm_core.specs.declared.answer.Answer.{Answer}
 use Rattle.dfm_core.specs.declared.answer.Answer.TheVariants.{Accepted, Refused}
 use Rattle.dfm_core.specs.Faults.{faults_of, summary_of, report_of}

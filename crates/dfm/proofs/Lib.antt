@@ -3,7 +3,6 @@
 --   rows_many, rows-few, faults_fit   the rows that cells and numbers hold
 --   ready_taken             rows put and taken back are those that were found
 --   outcome                 the outcome of a check
--- Leaves
 --   leaves                  a branch that leaves the function, in code that is followed statement by statement
 -- Demands, for readers: what an outcome says
 --   answer_number, accepted_zero, zero_accepted         the number of an answer
@@ -11,5 +10,4 @@
 --   reading_near, reading_nearer                        how far the readings of an accepted check are off
 --   outcome_only            the outcome is the only one of a call
 pub mod OutcomeLaws
-pub mod Leaves
 pub mod Demands

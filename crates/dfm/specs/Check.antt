@@ -1,5 +1,5 @@
 -- What the check of a part file answers, and what it leaves in each lent buffer. Definitions only.
-use Rattle.core.specs.Prelude.{◌≢◌}
+use Rattle.std.specs.Prelude.{◌≢◌}
 use Rattle.std.specs.Prelude.{◌≡◌, true, false, List, ◌++◌, ℕ, min, length, drop, replicate, Float}
 use Rattle.math.specs.Vector.{zero}
 use Rattle.file_part.specs.Part.{Part, part_of}
@@ -8,7 +8,7 @@ use Rattle.fault_row.specs.declared.row.FaultRow.{FaultRow}
 use Rattle.fault_rows.specs.Rows.{zero_row_of}
 use Rattle.fault_lines.specs.Line.{Line}
 use Rattle.fault_lines.specs.Listed.{Listed}
-use Rattle.report.specs.Text.{report_text}
+use Rattle.dfm_core.specs.report.specs.Text.{report_text}
 use Rattle.dfm_core.specs.declared.answer.Answer.{Answer}
 use Rattle.dfm_core.specs.Faults.{faults_of, summary_of}
 use Rattle.dfm_core.specs.Answer.{is_accepted, answer_of}

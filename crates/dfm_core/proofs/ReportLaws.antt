@@ -27,13 +27,13 @@ use Rattle.fault_row.specs.Row.{row_at_of, row_room}
 use Rattle.fault_row.specs.Flaw.{row_of, flaw_of}
 use Rattle.fault_row.specs.Summary.{no_summary}
 use Rattle.fault_lines.specs.Lines.{lines_of}
-use Rattle.fault_text.specs.Told.{fault_of}
-use Rattle.fault_text.specs.Good.{Good}
-use Rattle.fault_text.proofs.ToldLaws.{told_length}
-use Rattle.fault_merge.specs.Work.{faults_to}
-use Rattle.fault_merge.proofs.RowLaws.{rows_put, rows_good}
-use Rattle.report_faces.specs.Named.{named_of, named_at}
-use Rattle.report_faces.specs.Work.{Told, Kept}
+use Rattle.report.specs.fault_text.specs.Told.{fault_of}
+use Rattle.report.specs.fault_text.specs.Good.{Good}
+use Rattle.report.specs.fault_text.proofs.ToldLaws.{told_length}
+use Rattle.report.specs.fault_merge.specs.Work.{faults_to}
+use Rattle.report.specs.fault_merge.proofs.RowLaws.{rows_put, rows_good}
+use Rattle.report.specs.report_faces.specs.Named.{named_of, named_at}
+use Rattle.report.specs.report_faces.specs.Work.{Told, Kept}
 use Rattle.report.specs.declared.report.Written.{Written}
 use Rattle.report.specs.declared.report.Written.TheVariants.{Bytes, TooLong}
 use Rattle.report.specs.Text.{report_text}

@@ -29,31 +29,31 @@ use Rattle.fault_row.specs.Row.{row_at_of, row_room}
 use Rattle.fault_row.specs.Flaw.{row_of, flaw_of}
 use Rattle.fault_row.specs.Flaws.{none, FlawsPut}
 use Rattle.fault_row.proofs.FlawLaws.{flaw_of_row}
-use Rattle.fault_text.specs.Job.{min_wall_of}
-use Rattle.fault_text.specs.Machining.{min_drill, min_mill_radius}
-use Rattle.fault_text.specs.Printing.{two_layers}
-use Rattle.fault_text.specs.Good.{Good}
-use Rattle.rule_corners.specs.declared.corner.Corner.{Corner}
-use Rattle.rule_corners.specs.Corners.{over_corners}
-use Rattle.rule_corners.specs.Sharp.{is_reached, sharp_corner, sharp_corners}
+use Rattle.report.specs.fault_text.specs.Job.{min_wall_of}
+use Rattle.report.specs.fault_text.specs.Machining.{min_drill, min_mill_radius}
+use Rattle.report.specs.fault_text.specs.Printing.{two_layers}
+use Rattle.report.specs.fault_text.specs.Good.{Good}
+use Rattle.rule_machining.specs.rule_corners.specs.declared.corner.Corner.{Corner}
+use Rattle.rule_machining.specs.rule_corners.specs.Corners.{over_corners}
+use Rattle.rule_machining.specs.rule_corners.specs.Sharp.{is_reached, sharp_corner, sharp_corners}
 use Rattle.rule_machining.specs.Machining as machine
 use Rattle.rule_machining.specs.All.{machining, MachiningPut}
 use Rattle.sheet_bends.specs.Bends.{is_bend, is_bend_face}
-use Rattle.rule_flanges.specs.declared.legs.Leg.{Leg}
-use Rattle.rule_flanges.specs.Flanges.{reach_of, min_flange, flange_flaw, flange_flaws, flanges_of, bend_flanges, short_flanges}
-use Rattle.rule_holes.specs.declared.nearest.Nearest.{Nearest}
-use Rattle.rule_holes.specs.Nearest.{nearest_of}
-use Rattle.rule_holes.specs.Holes as hole
-use Rattle.print_walls.specs.declared.Thinnest.{Thinnest}
-use Rattle.print_walls.specs.Walls as wall
+use Rattle.rule_sheet.specs.rule_flanges.specs.declared.legs.Leg.{Leg}
+use Rattle.rule_sheet.specs.rule_flanges.specs.Flanges.{reach_of, min_flange, flange_flaw, flange_flaws, flanges_of, bend_flanges, short_flanges}
+use Rattle.rule_sheet.specs.rule_holes.specs.declared.nearest.Nearest.{Nearest}
+use Rattle.rule_sheet.specs.rule_holes.specs.Nearest.{nearest_of}
+use Rattle.rule_sheet.specs.rule_holes.specs.Holes as hole
+use Rattle.rule_printing.specs.print_walls.specs.declared.Thinnest.{Thinnest}
+use Rattle.rule_printing.specs.print_walls.specs.Walls as wall
 use Rattle.rule_sheet.specs.Material.{is_formed, material_flaws}
 use Rattle.rule_sheet.specs.Tight.{min_radius, tight_bend, bend_tight, tight_bends}
 use Rattle.rule_sheet.specs.All.{uneven_flaw, bent_flaws, is_measured, formed_flaws, sheet_metal, SheetPut}
 use Rattle.rule_printing.specs.Closed as closed
 use Rattle.rule_printing.specs.Rules as print
 use Rattle.rule_printing.specs.All.{printing, PrintingPut}
-use Rattle.report_faces.specs.Named.{named_of, named_at}
-use Rattle.report_faces.specs.Work.{Told}
+use Rattle.report.specs.report_faces.specs.Named.{named_of, named_at}
+use Rattle.report.specs.report_faces.specs.Work.{Told}
 
 -- ---- every flaw of a list
 record Each (P : Flaw → Type 0) (fs : List Flaw) : Type 0 where

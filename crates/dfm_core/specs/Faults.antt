@@ -8,7 +8,7 @@ use Rattle.fault_row.specs.declared.summary.Summary.{Summary}
 use Rattle.fault_row.specs.declared.flaw.Flaw.{Flaw}
 use Rattle.fault_row.specs.Fault.{Fault}
 use Rattle.fault_row.specs.Summary.{no_summary}
-use Rattle.fault_text.specs.Told.{told_all}
+use Rattle.report.specs.fault_text.specs.Told.{told_all}
 use Rattle.fault_lines.specs.Lines.{lines_of}
 use Rattle.rule_machining.specs.All.{machining}
 use Rattle.rule_sheet.specs.All.{sheet_metal}

@@ -2,3 +2,5 @@
 pub mod Faults
 pub mod Answer
 pub mod Work
+-- Passed on to the crates above.
+pub use Rattle.report

@@ -14,13 +14,13 @@ use Rattle.fault_row.specs.declared.summary.Found.{Found}
 use Rattle.fault_row.specs.Row.{row_room}
 use Rattle.fault_row.specs.Flaws.{FlawsPut}
 use Rattle.fault_row.specs.Summary.{no_summary}
-use Rattle.fault_text.specs.Good.{Good}
+use Rattle.report.specs.fault_text.specs.Good.{Good}
 use Rattle.fault_lines.specs.Lines.{lines_of}
 use Rattle.rule_machining.specs.All.{MachiningPut}
 use Rattle.rule_printing.specs.Rules.{traps_hollows_of}
-use Rattle.fault_merge.specs.Work.{faults_to}
-use Rattle.report_faces.specs.Named.{named_at}
-use Rattle.report_faces.specs.Work.{Told, Kept}
+use Rattle.report.specs.fault_merge.specs.Work.{faults_to}
+use Rattle.report.specs.report_faces.specs.Named.{named_at}
+use Rattle.report.specs.report_faces.specs.Work.{Told, Kept}
 use Rattle.report.specs.declared.report.Written.{Written}
 use Rattle.report.specs.declared.report.Written.TheVariants.{Bytes, TooLong}
 use Rattle.report.specs.Text.{report_text}

@@ -6,8 +6,8 @@ ghost use Rattle.scratch.specs.Standing.{Standing};
 ghost use Rattle.dfm_core.specs.Work.{StagesFor, Asked, MachinedPut, FaultsFound};
 
 use fault_row::summary::{Found, Summary};
-use fault_text::job::job_of;
 use file_job::Process;
+use report::fault_text::job::job_of;
 use rule_machining::machining::{Body, machining};
 use rule_printing::printing::printing;
 use rule_sheet::sheet::sheet_metal;

@@ -17,11 +17,11 @@ use Rattle.num_text.proofs.PutLaws.{put_same}
 use Rattle.file_part.specs.Part.{Part, part_of}
 use Rattle.scratch.specs.Refusal.{body_refusal_of}
 use Rattle.fault_rows.specs.Rows.{zero_row_of}
-use Rattle.dfm_core.specs.declared.answer.Answer.{Answer}
-use Rattle.dfm_core.specs.declared.answer.Answer.TheVariants.{Accepted, Refused}
-use Rattle.dfm_core.specs.Faults.{faults_of, report_of}
-use Rattle.dfm_core.specs.Answer.{number_of, length_of, is_accepted, answer_of}
-use Rattle.dfm.proofs.Demands.{report_alone, report_length}
+use Rattle.dfm_own.specs.dfm_core.specs.declared.answer.Answer.{Answer}
+use Rattle.dfm_own.specs.dfm_core.specs.declared.answer.Answer.TheVariants.{Accepted, Refused}
+use Rattle.dfm_own.specs.dfm_core.specs.Faults.{faults_of, report_of}
+use Rattle.dfm_own.specs.dfm_core.specs.Answer.{number_of, length_of, is_accepted, answer_of}
+use Rattle.dfm_own.specs.dfm.proofs.Demands.{report_alone, report_length}
 use Rattle.dfm_own.specs.Own.{OwnOutcome}
 use Rattle.dfm_print.specs.Print.{refusal_line, AnswerPut}
 use Rattle.dfm_main.specs.Program.{answer_text, program_text}

@@ -2,10 +2,10 @@
 use Rattle.std.specs.Prelude.{cond, List, ℕ, ltb, length}
 use Rattle.num_text.specs.Put.{bytes}
 use Rattle.file_part.specs.Part.{Part, part_of}
-use Rattle.dfm_core.specs.declared.answer.Answer.{Answer}
-use Rattle.dfm_core.specs.declared.answer.Answer.TheVariants.{Accepted, Refused}
-use Rattle.dfm_core.specs.Faults.{report_of}
-use Rattle.dfm_core.specs.Answer.{answer_of}
+use Rattle.dfm_own.specs.dfm_core.specs.declared.answer.Answer.{Answer}
+use Rattle.dfm_own.specs.dfm_core.specs.declared.answer.Answer.TheVariants.{Accepted, Refused}
+use Rattle.dfm_own.specs.dfm_core.specs.Faults.{report_of}
+use Rattle.dfm_own.specs.dfm_core.specs.Answer.{answer_of}
 use Rattle.dfm_print.specs.Print.{refusal_line}
 
 -- "prints the report, `refused` with a blank and the number"

@@ -1,12 +1,15 @@
 // Checks the part file on standard input: prints its report, `refused` with a blank and the number, or `too long` for more than 16,384 bytes.
+#![tactic(auto)]
+
 ghost use Rattle.std.specs.Prelude.{length};
 ghost use Rattle.num_text.specs.Put.{Put};
 ghost use Rattle.dfm_main.specs.Program.{program_text};
 
 use dfm_own::check_own;
 use dfm_print::{print_first, put_answer};
-use libc::STDIN_FILENO;
 use num_text::put::put_bytes;
+use std::io;
+use stream::read_full;
 
 // The longest file.
 const LONGEST: usize = 16_384;
@@ -34,10 +37,10 @@ fn put_printed(file: &[u8], out: &mut [u8]) -> usize
     put_answer(out, answer)
 }
 
-fn main() {
+fn main(rt: HostRuntime) -> io::Result<()> {
     let mut file = [0u8; READ];
-    let n = io::read_full(STDIN_FILENO, &mut file);
+    let n = read_full(&mut rt.stdin(), &mut file)?;
     let mut out = [0u8; REPORT];
     let count = put_printed(&file[..n], &mut out);
-    print_first(&out, count);
+    print_first(&mut rt.stdout(), &out, count)
 }

@@ -2,7 +2,7 @@
 use Rattle.std.specs.Prelude.{List, ℕ, replicate, Float}
 use Rattle.fault_row.specs.declared.row.FaultRow.{FaultRow}
 use Rattle.fault_rows.specs.Rows.{zero_row_of}
-use Rattle.dfm_core.specs.declared.answer.Answer.{Answer}
+use Rattle.dfm.specs.dfm_core.specs.declared.answer.Answer.{Answer}
 use Rattle.dfm.specs.Check.{Outcome}
 
 -- the outcome of the check, with so many rows lent

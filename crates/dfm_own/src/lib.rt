@@ -1,9 +1,14 @@
 // The check with fault rows of its own: what programs call, which lend none.
+#![tactic(auto)]
+
 ghost use Rattle.dfm_own.specs.Own.{OwnOutcome};
 
 use dfm::check::check;
-use dfm_core::answer::Answer;
+use dfm::dfm_core::answer::Answer;
 use fault_rows::zero_row;
+
+// Passed on to the crates above.
+pub use dfm::dfm_core;
 
 // Checks a part file with 512 fault rows.
 pub fn check_own(file: &[u8], words: &mut [u32], reals: &mut [f64], report: &mut [u8]) -> Answer

@@ -1,11 +1,16 @@
-// What the programs print of the answer to a part file: the bytes in a lent slice, and those bytes passed on to standard output.
+// What the programs print of the answer to a part file: the bytes in a lent slice, and those bytes passed on to a writer.
+#![tactic(auto)]
+
+ghost use Rattle.std.specs.Prelude.{◌≡◌, ◌<◌, ◌≤◌, length, take, OnOk};
+ghost use Rattle.std.specs.Io.KnownBytes.{Appends};
 ghost use Rattle.num_text.specs.Put.{Put};
 ghost use Rattle.dfm_print.specs.Print.{refusal_line, AnswerPut};
 
 use dfm_core::answer::Answer;
-use libc::STDOUT_FILENO;
 use num_text::number::put_number;
 use num_text::put::{put_byte, put_bytes};
+use std::io;
+use std::io::Write;
 
 // `refused`, a blank and the number on a line, from the start of `out` on. How many bytes they are.
 fn put_refusal(out: &mut [u8], number: u32) -> usize
@@ -26,9 +31,13 @@ pub fn put_answer(report: &mut [u8], answer: Answer) -> usize
     }
 }
 
-// Passes the first bytes on to standard output. What arrives there the kit's writers do not say.
-pub fn print_first(bytes: &[u8], count: usize) {
-    if count <= bytes.len() {
-        io::write_all(STDOUT_FILENO, &bytes[..count]);
+// Passes the first bytes on to a writer; where there are not so many, none.
+pub fn print_first<W: Write>(output: &mut W, bytes: &[u8], count: usize) -> io::Result<()>
+    ensures written { count ≤ length bytes.now → OnOk result (Appends (W.contents output.old) (W.contents output.new) (take count bytes.now)) }
+    ensures none { length bytes.now < count → output.new ≡ output.old }
+{
+    if bytes.len() < count {
+        return Ok(());
     }
+    output.write_all(&bytes[..count])
 }

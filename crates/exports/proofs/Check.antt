@@ -2,9 +2,9 @@
 use mathlib.Core.Path.{◌≡◌, refl}
 use mathlib.Core.Bool.{cond}
 use Prim.Native.Nat.{ℕ}
-use Rattle.dfm_core.specs.declared.answer.Answer.{Answer}
-use Rattle.dfm_core.specs.declared.answer.Answer.TheVariants.{Accepted, Refused}
-use Rattle.dfm_core.specs.Answer.{number_of, length_of, is_accepted}
+use Rattle.dfm.specs.dfm_core.specs.declared.answer.Answer.{Answer}
+use Rattle.dfm.specs.dfm_core.specs.declared.answer.Answer.TheVariants.{Accepted, Refused}
+use Rattle.dfm.specs.dfm_core.specs.Answer.{number_of, length_of, is_accepted}
 
 pub tell_accepted : (r : Answer) (n old : ℕ) → r ≡ Accepted n → (0 ≡ number_of r) × (n ≡ cond (is_accepted r) (length_of r) old)
 unfolding number_of length_of is_accepted

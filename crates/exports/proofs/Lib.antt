@@ -2,4 +2,3 @@
 pub mod Decimal
 pub mod Check
 pub mod Obj
-pub mod LentRef

@@ -1,8 +1,8 @@
 -- What a call of the check from Rust or C leaves. Definitions only.
 use Rattle.std.specs.Prelude.{◌≡◌, cond, List, ℕ, Float}
 use Rattle.fault_row.specs.declared.row.FaultRow.{FaultRow}
-use Rattle.dfm_core.specs.declared.answer.Answer.{Answer}
-use Rattle.dfm_core.specs.Answer.{number_of, length_of, is_accepted}
+use Rattle.dfm.specs.dfm_core.specs.declared.answer.Answer.{Answer}
+use Rattle.dfm.specs.dfm_core.specs.Answer.{number_of, length_of, is_accepted}
 use Rattle.dfm.specs.Check.{Outcome}
 
 -- The outcome of the check, its answer told by two numbers: the refusal's, 0 for none, and the report's length, which is set where there is a report

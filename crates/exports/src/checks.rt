@@ -1,10 +1,10 @@
 // The check of a part file.
 ghost use Rattle.std.specs.Prelude.{◌≡◌, cond};
-ghost use Rattle.dfm_core.specs.Answer.{number_of, length_of, is_accepted};
+ghost use Rattle.dfm.specs.dfm_core.specs.Answer.{number_of, length_of, is_accepted};
 ghost use Rattle.exports.specs.Check.{Checks};
 
 use dfm::check::check;
-use dfm_core::answer::Answer;
+use dfm::dfm_core::answer::Answer;
 use fault_row::row::FaultRow;
 use refusal::ACCEPTED;
 

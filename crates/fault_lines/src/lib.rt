@@ -1,1 +1,2 @@
 // What the lines of a report are: definitions and laws only.
+#![tactic(auto)]

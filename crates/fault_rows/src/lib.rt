@@ -1,5 +1,7 @@
 // Fault rows as a lent slice of structs: put from cells and numbers, taken back into them, and zeroed. No other function reads or writes such a slice;
 // the rules and the report run on cells and numbers.
+#![tactic(auto)]
+
 ghost use Rattle.std.specs.Prelude.{◌≡◌, ◌≤◌, length};
 ghost use Rattle.fault_row.specs.Row.{row_at_of, row_room};
 ghost use Rattle.fault_rows.specs.Rows.{zero_row_of, painted, wiped, Taken};

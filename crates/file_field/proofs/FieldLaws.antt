@@ -4,11 +4,11 @@ use mathlib.Core.Bool.{Bool, true, ◌&&◌}
 use Prim.Native.Nat.{ℕ}
 use lib.Dec.{lit≤}
 use lib.Ieee.{Float, of_bits, neg, le}
-use Rattle.num_float.specs.Within.{Within}
-use Rattle.num_float.specs.Sign.{NonNeg}
-use Rattle.num_float.proofs.Tests.{and_left, and_right}
-use Rattle.num_float.proofs.NonNegative.{nonneg_above}
-use Rattle.num_float.proofs.Within.{neg_within, tested_within}
+use Rattle.math.specs.num_float.specs.Within.{Within}
+use Rattle.math.specs.num_float.specs.Sign.{NonNeg}
+use Rattle.math.specs.num_float.proofs.Tests.{and_left, and_right}
+use Rattle.math.specs.num_float.proofs.NonNegative.{nonneg_above}
+use Rattle.math.specs.num_float.proofs.Within.{neg_within, tested_within}
 use Rattle.math.specs.declared.Vec3.{Vec3}
 use Rattle.math.specs.Vector.{length_sq_of}
 use Rattle.math.specs.Size.{VecWithin}

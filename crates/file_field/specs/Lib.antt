@@ -2,3 +2,5 @@
 pub mod Field
 pub mod Test
 pub mod Direction
+-- Passed on to the crates above.
+pub use Rattle.math

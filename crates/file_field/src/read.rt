@@ -35,7 +35,7 @@ pub fn f64_at(file: &[u8], at: usize) -> f64
     requires { at + 8 ≤ length file.now }
     ensures { result ≡ f64_at file.now at }
 {
-    num_real::bits::from_bits(u64_at(file, at))
+    math::num_real::bits::from_bits(u64_at(file, at))
 }
 
 // The three f64 from `at` on.

@@ -4,7 +4,7 @@
 use Rattle.std.specs.Prelude.{Bool, true, false, cond, List, ℕ, ◌+◌, ◌/◌, ◌%◌, take, drop, eqb}
 use Rattle.std.specs.Float.{binary64}
 use Rattle.std.specs.Float.Ieee.{of_bits}
-use Rattle.math.specs.Vector.{y_vec}
+use Rattle.file_field.specs.math.specs.Vector.{y_vec}
 use Rattle.file_field.specs.Field.{u32_at, f64_at, vec_at_of}
 use Rattle.file_job.specs.declared.Process.{Process}
 use Rattle.file_job.specs.declared.Process.TheVariants.{CncMachining, SheetMetal, Fdm, Sla, Sls}

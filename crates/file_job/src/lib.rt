@@ -1,10 +1,16 @@
 // The job of a part file: what the part is made by and of. material.rs and the print settings of dfm.rs, with flags for `Option`.
+#![tactic(auto)]
+
 ghost use Rattle.std.specs.Prelude.{◌≡◌, ◌+◌, ◌≤◌, length};
 ghost use Rattle.file_job.specs.Job.{process_of, class_of, has_flag, defaults_of, settings_at, material_at, job_at};
 ghost use Rattle.file_job.specs.Work.{is_printing};
 
+use file_field::math::Vec3;
 use file_field::read::{f64_at, u32_at, vec_at};
-use math::Vec3;
+
+// Passed on to the crates above.
+pub use file_field;
+pub use file_field::math;
 
 #[derive(Clone, Copy)]
 pub enum Process {

@@ -13,9 +13,9 @@ use Rattle.num_float.specs.Within.{Within}
 use Rattle.num_float.proofs.Tests.{contrary, and_left, and_right}
 use Rattle.num_float.proofs.Within.{wider, neg_within}
 use Rattle.list_laws.proofs.Below.{all_each}
-use Rattle.file_field.specs.Field.{u32_at, u64_at, f64_at, vec_at_of}
-use Rattle.file_field.specs.Test.{in_range, is_direction, ten_thousand}
-use Rattle.file_field.proofs.FieldLaws.{in_range_from, in_range_to, in_range_within, in_range_nonneg, directed, ten_thousand_within}
+use Rattle.file_job.specs.file_field.specs.Field.{u32_at, u64_at, f64_at, vec_at_of}
+use Rattle.file_job.specs.file_field.specs.Test.{in_range, is_direction, ten_thousand}
+use Rattle.file_job.specs.file_field.proofs.FieldLaws.{in_range_from, in_range_to, in_range_within, in_range_nonneg, directed, ten_thousand_within}
 use Rattle.file_job.specs.Job.{has_flag, settings_at, material_at, job_at}
 use Rattle.file_job_ok.specs.Rules.{none, thousandth, thousand, flagged_real, flagged_word, head_good, settings_good, material_good, name_byte_good, name_good, job_good}
 use Rattle.file_job_ok.specs.Good.{GoodSettings, GoodMaterial, GoodName, GoodJob}

@@ -4,8 +4,8 @@ use Rattle.std.specs.Prelude.{◌≡◌, Bool, true, false, List, ℕ, ◌+◌, 
 use Rattle.std.specs.Float.Ieee.{le}
 use Rattle.num_float.specs.Sign.{NonNeg, plus_zero}
 use Rattle.num_float.specs.Within.{Within}
-use Rattle.file_field.specs.Field.{u32_at, u64_at}
-use Rattle.file_field.specs.Direction.{Directed}
+use Rattle.file_job.specs.file_field.specs.Field.{u32_at, u64_at}
+use Rattle.file_job.specs.file_field.specs.Direction.{Directed}
 use Rattle.file_job.specs.declared.Material.{Material}
 use Rattle.file_job.specs.declared.PrintSettings.{PrintSettings}
 use Rattle.file_job.specs.Job.{job_at}

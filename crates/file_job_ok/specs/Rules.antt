@@ -3,8 +3,8 @@ use Rattle.std.specs.Prelude.{Bool, not, ◌&&◌, ◌||◌, cond, List, ℕ, �
 use Rattle.std.specs.Float.{binary64}
 use Rattle.std.specs.Float.Ieee.{of_bits, neg}
 use Rattle.list_laws.specs.Below.{all_below}
-use Rattle.file_field.specs.Field.{u32_at, u64_at, f64_at, vec_at_of}
-use Rattle.file_field.specs.Test.{in_range, is_direction, ten_thousand}
+use Rattle.file_job.specs.file_field.specs.Field.{u32_at, u64_at, f64_at, vec_at_of}
+use Rattle.file_job.specs.file_field.specs.Test.{in_range, is_direction, ten_thousand}
 use Rattle.file_job.specs.Job.{has_flag}
 
 -- the f64 0, 0.001 and 1e3

@@ -1,2 +1,4 @@
 // When a job is within its rules: refusal 5.
+#![tactic(auto)]
+
 pub mod rules;

@@ -2,8 +2,8 @@
 ghost use Rattle.std.specs.Prelude.{◌≡◌, ◌+◌, ◌≤◌, length};
 ghost use Rattle.file_job_ok.specs.Rules.{flagged_real, flagged_word, head_good, settings_good, material_good, name_byte_good, name_good, job_good};
 
-use file_field::read::{f64_at, u32_at, u64_at, vec_at};
-use file_field::test::{in_range, is_direction};
+use file_job::file_field::read::{f64_at, u32_at, u64_at, vec_at};
+use file_job::file_field::test::{in_range, is_direction};
 use file_job::{BEND_RATIO, MATERIAL, NOZZLE, OVERHANG, has};
 
 // A field that counts only where its flag is set, and is zero bits otherwise.

@@ -7,9 +7,9 @@ use Prim.Native.Nat.{ℕ, zero, suc, ◌+◌}
 use native.Mathlib.Omega.{arith}
 use borrow.Author.Tests.{ne_eqb}
 use Rattle.num_float.proofs.Tests.{and_left, and_right}
-use Rattle.file_field.specs.Field.{u32_at, f64_at, vec_at_of}
-use Rattle.file_field.specs.Test.{in_range, is_point, is_direction, ten_thousand, zero_words}
-use Rattle.file_field.proofs.FieldLaws.{in_range_from, in_range_to, directed, point_within}
+use Rattle.file_part.specs.file_field.specs.Field.{u32_at, f64_at, vec_at_of}
+use Rattle.file_part.specs.file_field.specs.Test.{in_range, is_point, is_direction, ten_thousand, zero_words}
+use Rattle.file_part.specs.file_field.proofs.FieldLaws.{in_range_from, in_range_to, directed, point_within}
 use Rattle.file_job_ok.specs.Rules.{thousandth}
 use Rattle.file_part.specs.declared.read.SurfaceKind.TheVariants.{Other}
 use Rattle.file_part.specs.Part.{surface_of, surface_at}

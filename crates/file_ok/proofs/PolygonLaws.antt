@@ -9,9 +9,9 @@ use borrow.Author.Tests.{leb-true}
 use Rattle.num_float.proofs.Tests.{and_left, and_right, and_false_left}
 use Rattle.list_laws.specs.Below.{all_below}
 use Rattle.list_laws.proofs.Below.{all_none, all_more, all_fails, sum_none, sum_more}
-use Rattle.math.specs.declared.Vec3.{Vec3}
-use Rattle.file_field.specs.Field.{u32_at, vec_at_of}
-use Rattle.file_field.specs.Test.{is_point}
+use Rattle.file_part.specs.math.specs.declared.Vec3.{Vec3}
+use Rattle.file_part.specs.file_field.specs.Field.{u32_at, vec_at_of}
+use Rattle.file_part.specs.file_field.specs.Test.{is_point}
 use Rattle.file_part.specs.Layout.{entry_at}
 use Rattle.file_part.specs.Part.{first_at, count_at_of}
 use Rattle.file_ok.specs.Rules.{vertex_good, vertices_good, surface_good, run_start, run_good, entry_good, polygon_good, polygons_good}

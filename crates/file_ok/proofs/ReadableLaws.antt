@@ -10,10 +10,10 @@ use borrow.Author.Tests.{not-false, ltb-false, eqb-true, leb-true}
 use Rattle.num_float.proofs.Tests.{and_left, and_right, or_false_left, or_false_right}
 use Rattle.list_laws.specs.Below.{all_below}
 use Rattle.list_laws.proofs.Below.{all_each}
-use Rattle.math.specs.Size.{VecWithin}
-use Rattle.file_field.specs.Field.{vec_at_of}
-use Rattle.file_field.specs.Test.{is_point}
-use Rattle.file_field.proofs.FieldLaws.{point_within}
+use Rattle.file_part.specs.math.specs.Size.{VecWithin}
+use Rattle.file_part.specs.file_field.specs.Field.{vec_at_of}
+use Rattle.file_part.specs.file_field.specs.Test.{is_point}
+use Rattle.file_part.specs.file_field.proofs.FieldLaws.{point_within}
 use Rattle.file_job_ok.specs.Rules.{job_good}
 use Rattle.file_job_ok.specs.Good.{GoodJob}
 use Rattle.file_job_ok.proofs.JobLaws.{good_job}

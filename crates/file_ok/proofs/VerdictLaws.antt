@@ -7,7 +7,7 @@ use lib.Dec.{eqb, ltb}
 use lib.ListN.{length}
 use borrow.Author.Tests.{not-false, lt-ltb, le-ltb, ltb-false, eq-eqb, ne_eqb, eqb-true}
 use Rattle.num_float.proofs.Tests.{or_false_left, or_false_right}
-use Rattle.file_field.specs.Field.{u32_at}
+use Rattle.file_part.specs.file_field.specs.Field.{u32_at}
 use Rattle.file_job_ok.specs.Rules.{job_good}
 use Rattle.file_ok.specs.declared.verdict.Verdict.{Verdict}
 use Rattle.file_ok.specs.declared.verdict.Verdict.TheVariants.{Accepted, TooShort, WrongEdition, TooLarge, WrongLength, BadJob, BadVertex, BadPolygon}

@@ -1,10 +1,10 @@
 -- What is known of a file that none of refusals 1 to 7 turns back, as later layers use it. Definitions only.
 use Rattle.std.specs.Prelude.{◌≡◌, true, List, ℕ, ◌+◌, ◌≤◌}
 use Rattle.std.specs.Float.Ieee.{le}
-use Rattle.math.specs.declared.Vec3.{Vec3}
-use Rattle.math.specs.Size.{VecWithin}
-use Rattle.file_field.specs.Test.{ten_thousand}
-use Rattle.file_field.specs.Direction.{Directed}
+use Rattle.file_part.specs.math.specs.declared.Vec3.{Vec3}
+use Rattle.file_part.specs.math.specs.Size.{VecWithin}
+use Rattle.file_part.specs.file_field.specs.Test.{ten_thousand}
+use Rattle.file_part.specs.file_field.specs.Direction.{Directed}
 use Rattle.file_job_ok.specs.Rules.{thousandth}
 use Rattle.file_part.specs.declared.read.SurfaceKind.{SurfaceKind}
 use Rattle.file_part.specs.declared.read.SurfaceKind.TheVariants.{Plane, Cylinder, Revolved, Other}

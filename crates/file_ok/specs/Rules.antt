@@ -1,8 +1,8 @@
 -- When a vertex or a polygon entry is out of document 01's rules (refusals 6 and 7). Definitions only.
 use Rattle.std.specs.Prelude.{Bool, false, ◌&&◌, ◌||◌, cond, List, ℕ, ◌+◌, ◌*◌, eqb, leb}
 use Rattle.list_laws.specs.Below.{all_below, sum_below}
-use Rattle.file_field.specs.Field.{u32_at, f64_at, vec_at_of}
-use Rattle.file_field.specs.Test.{in_range, is_point, is_direction, ten_thousand, zero_words}
+use Rattle.file_part.specs.file_field.specs.Field.{u32_at, f64_at, vec_at_of}
+use Rattle.file_part.specs.file_field.specs.Test.{in_range, is_point, is_direction, ten_thousand, zero_words}
 use Rattle.file_job_ok.specs.Rules.{thousandth}
 use Rattle.file_part.specs.Layout.{entry_at}
 use Rattle.file_part.specs.Part.{first_at, count_at_of}

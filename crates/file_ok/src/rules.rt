@@ -3,8 +3,8 @@ ghost use Rattle.std.specs.Prelude.{◌≡◌, ◌+◌, ◌*◌, ◌≤◌, leng
 ghost use Rattle.file_part.specs.Layout.{entry_at};
 ghost use Rattle.file_ok.specs.Rules.{vertices_good, axis_good, radius_good, surface_good, run_good, entry_good, polygons_good};
 
-use file_field::read::{f64_at, u32_at, vec_at};
-use file_field::test::{in_range, is_direction, is_point, zero_words};
+use file_part::file_field::read::{f64_at, u32_at, vec_at};
+use file_part::file_field::test::{in_range, is_direction, is_point, zero_words};
 use file_part::read::{entry_at, first_vertex, run_length, vertex};
 
 // Every coordinate of the vertices is in its range.

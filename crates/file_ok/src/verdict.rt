@@ -4,8 +4,8 @@ ghost use Rattle.file_part.specs.Layout.{size_of};
 ghost use Rattle.file_ok.specs.Verdict.{number, content_verdict, verdict_of};
 
 use crate::rules::{polygons_are_good, vertices_are_good};
-use file_field::read::u32_at;
 use file_job_ok::rules::job_is_good;
+use file_part::file_field::read::u32_at;
 use file_part::read::{entry_at, polygon_count, vertex_count};
 use refusal::{
     ACCEPTED, BAD_JOB, BAD_POLYGON, BAD_VERTEX, FLAT_POLYGON, TOO_LARGE, TOO_MANY_FACES, TOO_SHORT,

@@ -8,7 +8,7 @@ use lib.Ieee.{binary64, of_bits, is_nan, nan_bits}
 use lib.Ieee.Bits.{nan_bits_is}
 use Rattle.num_float.specs.Within.{Within}
 use Rattle.num_real.proofs.BitsLaws.{finite→no_nan}
-use Rattle.file_field.specs.Field.{u64_at, f64_at}
+use Rattle.file_job.specs.file_field.specs.Field.{u64_at, f64_at}
 
 -- the pattern of a bounded number is no NaN's
 pub no_nan_bits : (s : List ℕ) (at b c : ℕ) → b ≡ u64_at s at → Within (f64_at s at) c → T (not (nan_bits binary64 b))

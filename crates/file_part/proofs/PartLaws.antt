@@ -2,7 +2,7 @@
 use mathlib.Core.Path.{◌≡◌, refl}
 use mathlib.Core.List.{List}
 use Prim.Native.Nat.{ℕ, ◌*◌}
-use Rattle.file_field.specs.Field.{vec_at_of}
+use Rattle.file_job.specs.file_field.specs.Field.{vec_at_of}
 use Rattle.file_job.specs.Job.{job_at, name_at}
 use Rattle.file_part.specs.Layout.{vertex_count_of, polygon_count_of, entry_at}
 use Rattle.file_part.specs.Part.{face_at, surface_at, first_at, count_at_of, polygon_at, part_of}

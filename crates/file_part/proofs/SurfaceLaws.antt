@@ -4,8 +4,8 @@ use mathlib.Core.List.{List}
 use Prim.Native.Nat.{ℕ, ◌+◌}
 use borrow.Author.Tests.{ne_eqb}
 use lib.Ieee.{Float}
-use Rattle.math.specs.declared.Vec3.{Vec3}
-use Rattle.file_field.specs.Field.{u32_at, f64_at, vec_at_of}
+use Rattle.file_job.specs.math.specs.declared.Vec3.{Vec3}
+use Rattle.file_job.specs.file_field.specs.Field.{u32_at, f64_at, vec_at_of}
 use Rattle.file_part.specs.declared.read.SurfaceKind.TheVariants.{Plane, Cylinder, Revolved, Other}
 use Rattle.file_part.specs.Part.{surface_of, surface_at}
 

@@ -2,7 +2,7 @@
 -- "V vertices of 24 bytes (three f64, mm), P polygons of 80, a job of 128, a trailer of 16 (u32: edition 1, V, P, and back = 80 × P + 144,
 -- the bytes from the end of the file to the first polygon)".
 use Rattle.std.specs.Prelude.{List, ℕ, ◌+◌, ◌-◌, ◌*◌, length}
-use Rattle.file_field.specs.Field.{u32_at}
+use Rattle.file_job.specs.file_field.specs.Field.{u32_at}
 
 -- ---- the trailer: the last 16 bytes
 unfoldable pub edition : List ℕ → ℕ

@@ -1,7 +1,7 @@
 -- What a part file says: the part that every later definition starts from. Definitions only.
 use Rattle.std.specs.Prelude.{cond, List, ℕ, ◌+◌, ◌*◌, eqb}
-use Rattle.math.specs.declared.Vec3.{Vec3}
-use Rattle.file_field.specs.Field.{u32_at, f64_at, vec_at_of}
+use Rattle.file_job.specs.math.specs.declared.Vec3.{Vec3}
+use Rattle.file_job.specs.file_field.specs.Field.{u32_at, f64_at, vec_at_of}
 use Rattle.file_job.specs.declared.Job.{Job}
 use Rattle.file_job.specs.Job.{job_at, name_at}
 use Rattle.file_part.specs.declared.read.FaceId.{FaceId}

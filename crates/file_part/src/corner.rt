@@ -1,11 +1,11 @@
 // Corners of an accepted file, read with no test for a NaN: its coordinates are within 10,000. In loops over corners the test costs time.
 ghost use Rattle.std.specs.Prelude.{◌≡◌, ◌+◌, ◌*◌, ◌≤◌, length};
 ghost use Rattle.num_float.specs.Within.{Within};
-ghost use Rattle.math.specs.Size.{VecWithin};
-ghost use Rattle.file_field.specs.Field.{f64_at, vec_at_of};
+ghost use Rattle.file_job.specs.math.specs.Size.{VecWithin};
+ghost use Rattle.file_job.specs.file_field.specs.Field.{f64_at, vec_at_of};
 
-use file_field::read::u64_at;
-use math::Vec3;
+use file_job::file_field::read::u64_at;
+use file_job::math::Vec3;
 
 // The f64 of the eight bytes at `at`.
 fn coordinate(file: &[u8], at: usize) -> f64

@@ -1,11 +1,11 @@
 // Vertices, polygon entries and counts of a part file. A place `at` is that of a polygon's entry.
 ghost use Rattle.std.specs.Prelude.{◌≡◌, ◌+◌, ◌*◌, ◌≤◌, ◌<◌, length};
-ghost use Rattle.file_field.specs.Field.{vec_at_of};
+ghost use Rattle.file_job.specs.file_field.specs.Field.{vec_at_of};
 ghost use Rattle.file_part.specs.Layout.{vertex_count_of, polygon_count_of, entry_at};
 ghost use Rattle.file_part.specs.Part.{face_at, surface_at, first_at, count_at_of};
 
-use file_field::read::{f64_at, u32_at, vec_at};
-use math::Vec3;
+use file_job::file_field::read::{f64_at, u32_at, vec_at};
+use file_job::math::Vec3;
 
 // The name of a face: the feature that made it and its number there.
 #[derive(Clone, Copy)]

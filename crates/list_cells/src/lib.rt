@@ -1,4 +1,6 @@
 // The cells of lent slices: one value for all of them, and a cell as a number of a place.
+#![tactic(auto)]
+
 ghost use Rattle.std.specs.Prelude.{◌≡◌, ◌<◌, length, get_or, replicate};
 
 // A cell as a number of a place.

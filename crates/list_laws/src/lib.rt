@@ -1,1 +1,2 @@
 // Definitions and laws on the numbers below n; no code.
+#![tactic(auto)]

@@ -1,4 +1,6 @@
 // The value at half the total weight. Pairs of value and weight are numbers in a lent slice.
+#![tactic(auto)]
+
 ghost use Rattle.std.specs.Prelude.{◌≡◌, ◌≤◌, ◌<◌, min, length, get_or};
 ghost use Rattle.std.specs.Float.{nan};
 ghost use Rattle.list_sort.specs.Work.{Numbered};

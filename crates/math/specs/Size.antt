@@ -1,6 +1,6 @@
 -- The size of a vector's components. Definitions only.
 use Rattle.std.specs.Prelude.{ℕ}
-use Rattle.num_float.specs.Within.{Within}
+use Rattle.num_norm.specs.num_float.specs.Within.{Within}
 use Rattle.math.specs.declared.Vec3.{Vec3}
 
 -- each component is finite, and at most b in size

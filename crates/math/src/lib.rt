@@ -1,6 +1,11 @@
 // Vectors of three f64, as math.rs has them.
+#![tactic(auto)]
+
 ghost use Rattle.std.specs.Prelude.{◌≡◌};
 ghost use Rattle.math.specs.Vector.{plus, minus, times, over, opposite, dot_of, cross_of, length_sq_of, length_of, distance_of, normalized_of, perpendicular_of, low_of, high_of};
+
+// Passed on to the crates above.
+pub use num_real;
 
 #[derive(Clone, Copy)]
 pub struct Vec3 {
@@ -114,7 +119,7 @@ impl Vec3 {
     pub fn length(self) -> f64
         ensures { result ≡ length_of self }
     {
-        num_root::sqrt(self.length_sq())
+        num_norm::num_root::sqrt(self.length_sq())
     }
 
     pub fn distance(self, o: Vec3) -> f64

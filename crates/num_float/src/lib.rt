@@ -1,1 +1,2 @@
 // Laws on f64 alone; this crate has no functions. proofs/Lib.antt lists the laws.
+#![tactic(auto)]

@@ -2,3 +2,5 @@
 pub mod Length
 pub mod Least
 pub mod Work
+-- Passed on to the crates above.
+pub use Rattle.num_float

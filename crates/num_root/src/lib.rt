@@ -2,6 +2,8 @@
 //
 // A guess is made with floats, of which nothing is promised. A whole-number test then either shows which of three
 // neighbours is the nearest to the exact root, or hands over to a bisection, which needs no guess.
+#![tactic(auto)]
+
 ghost use Rattle.std.specs.Prelude.{◌≡◌, ◌+◌, ◌*◌, ◌^◌, ◌<◌, ◌≤◌, false, from_bits, to_bits};
 ghost use Rattle.std.specs.Float.{binary64};
 ghost use Rattle.std.specs.Float.Ieee.{round};

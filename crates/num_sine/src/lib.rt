@@ -1,4 +1,6 @@
 // The sine of an angle in tenths of a degree, from a table.
+#![tactic(auto)]
+
 mod table;
 
 ghost use Rattle.std.specs.Prelude.{◌≡◌};

@@ -1,4 +1,6 @@
 // Text into a lent slice of bytes: bytes, whole numbers, decimals.
+#![tactic(auto)]
+
 pub mod decimal;
 mod digits;
 pub mod number;

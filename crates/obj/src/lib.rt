@@ -1,3 +1,5 @@
 // OBJ text as a part file.
+#![tactic(auto)]
+
 pub mod convert;
 pub mod write;

@@ -1,2 +1,4 @@
 // The part file of OBJ text.
+#![tactic(auto)]
+
 pub mod bytes;

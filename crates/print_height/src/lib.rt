@@ -1,4 +1,6 @@
 // The heights of a part along its build direction.
+#![tactic(auto)]
+
 ghost use Rattle.std.specs.Prelude.{◌≡◌};
 ghost use Rattle.file_part.specs.Part.{part_of};
 ghost use Rattle.solid_faces.specs.Faces.{Checked};

@@ -1,4 +1,6 @@
 // `Thinner than a layer`, `Few layers`, `Thinner than the nozzle` and `Thin wall` of a print.
+#![tactic(auto)]
+
 ghost use Rattle.std.specs.Prelude.{◌≡◌, ◌+◌, ◌≤◌, ◌<◌, length, get_or};
 ghost use Rattle.std.specs.Float.Ieee.{lt};
 ghost use Rattle.num_real.specs.Select.{abs_of};
@@ -23,6 +25,9 @@ use num_real::select::abs;
 use scratch::regions::Regions;
 use wall_pairs::{Counts, NextWall, next_wall};
 use wall_samples::sample::{Sample, sample_at};
+
+// Passed on to the crates above.
+pub use fault_text;
 
 // The thinnest reading so far between two faces, and whether it goes through layers.
 #[derive(Clone, Copy)]

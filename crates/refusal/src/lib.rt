@@ -1,5 +1,6 @@
 // The refusals: the number of each, and above it the condition that it tells. All code reads them from here; specs/Numbers.antt has the same numbers
 // for definitions.
+#![tactic(auto)]
 
 // No refusal.
 pub const ACCEPTED: u32 = 0;

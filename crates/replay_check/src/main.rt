@@ -1,12 +1,16 @@
 // Replays the fixed list of part files through the check, and prints each answer as the program prints it. On standard input a file stands after five
 // u32: the length of what follows, then how many u32 and f64 of scratch, fault rows (512 or none) and report bytes are lent; then the file, packed.
+#![tactic(auto)]
+
 ghost use Rattle.std.specs.Prelude.{◌≤◌};
 
-use dfm_core::answer::Answer;
+use dfm_own::dfm_core::answer::Answer;
 use dfm_own::{check_own, check_rowless};
 use dfm_print::{print_first, put_answer};
 use file_field::read::u32_at;
-use libc::{STDIN_FILENO, STDOUT_FILENO};
+use std::io;
+use std::io::{Read, Write};
+use stream::read_full;
 
 // The longest file of the list, 1,025 triangles.
 const LONGEST: usize = 155_944;
@@ -54,7 +58,14 @@ fn check_with(
 }
 
 // Checks a file with so much lent, and prints the answer.
-fn answer(file: &[u8], words: &mut [u32], reals: &mut [f64], report: &mut [u8], lent: Lent) {
+fn answer<W: Write>(
+    output: &mut W,
+    file: &[u8],
+    words: &mut [u32],
+    reals: &mut [f64],
+    report: &mut [u8],
+    lent: Lent,
+) -> io::Result<()> {
     let w = lesser(lent.words, words.len());
     let r = lesser(lent.reals, reals.len());
     let b = lesser(lent.report, report.len());
@@ -66,39 +77,51 @@ fn answer(file: &[u8], words: &mut [u32], reals: &mut [f64], report: &mut [u8], 
         &mut report[..b],
     );
     let count = put_answer(report, answer);
-    print_first(report, count);
+    print_first(output, report, count)
 }
 
 // Checks a file, and prints the answer.
-fn replay_file(file: &[u8], lent: Lent) {
+fn replay_file<W: Write>(output: &mut W, file: &[u8], lent: Lent) -> io::Result<()> {
     let mut words = [0u32; WORDS];
     let mut reals = [0.0f64; REALS];
     let mut report = [0u8; REPORT];
-    answer(file, &mut words, &mut reals, &mut report, lent);
+    answer(output, file, &mut words, &mut reals, &mut report, lent)
 }
 
 // Replays a file that is packed in n bytes; false where there are not so many.
-fn replay(file: &mut [u8], packed: &mut [u8], n: usize, lent: Lent) -> bool {
+fn replay<R: Read, W: Write>(
+    input: &mut R,
+    output: &mut W,
+    file: &mut [u8],
+    packed: &mut [u8],
+    n: usize,
+    lent: Lent,
+) -> io::Result<bool> {
     if packed.len() < n {
-        return false;
+        return Ok(false);
     }
-    if io::read_full(STDIN_FILENO, &mut packed[..n]) < n {
-        return false;
+    if read_full(input, &mut packed[..n])? < n {
+        return Ok(false);
     }
     let length = replay_packed::unpack(file, &packed[..n]);
     if length <= file.len() {
-        replay_file(&file[..length], lent);
+        replay_file(output, &file[..length], lent)?;
     } else {
-        io::write_all(STDOUT_FILENO, b"too long\n");
+        output.write_all(b"too long\n")?;
     }
-    true
+    Ok(true)
 }
 
 // Replays the next file; false where there is none.
-fn replay_next(file: &mut [u8; LONGEST], packed: &mut [u8; LONGEST_PACKED]) -> bool {
+fn replay_next<R: Read, W: Write>(
+    input: &mut R,
+    output: &mut W,
+    file: &mut [u8; LONGEST],
+    packed: &mut [u8; LONGEST_PACKED],
+) -> io::Result<bool> {
     let mut head = [0u8; 20];
-    if io::read_full(STDIN_FILENO, &mut head) < 20 {
-        return false;
+    if read_full(input, &mut head)? < 20 {
+        return Ok(false);
     }
     let lent = Lent {
         words: u32_at(&head, 4) as usize,
@@ -106,18 +129,19 @@ fn replay_next(file: &mut [u8; LONGEST], packed: &mut [u8; LONGEST_PACKED]) -> b
         rows: u32_at(&head, 12) as usize,
         report: u32_at(&head, 16) as usize,
     };
-    replay(file, packed, u32_at(&head, 0) as usize, lent)
+    replay(input, output, file, packed, u32_at(&head, 0) as usize, lent)
 }
 
-fn main() {
+fn main(rt: HostRuntime) -> io::Result<()> {
+    let mut input = rt.stdin();
+    let mut output = rt.stdout();
     let mut file = [0u8; LONGEST];
     let mut packed = [0u8; LONGEST_PACKED];
     // at most so many files
-    let mut left: usize = 4096;
-    while 0 < left {
-        left -= 1;
-        if !replay_next(&mut file, &mut packed) {
-            return;
+    for _ in 0..4096 {
+        if !replay_next(&mut input, &mut output, &mut file, &mut packed)? {
+            break;
         }
     }
+    Ok(())
 }

@@ -1,9 +1,13 @@
 // Replays a fixed list of Rust's answers: for each f64 pattern of standard input, 16 hexadecimal digits to a line, prints the pattern of
 // its root and its decimals with 0 to 3 places, `refused 13` for one that is refused.
+#![tactic(auto)]
+
 ghost use Rattle.std.specs.Prelude.{◌<◌};
 
-use libc::{STDIN_FILENO, STDOUT_FILENO};
 use refusal::NO_DECIMAL;
+use std::io;
+use std::io::{Read, Write};
+use stream::read_full;
 
 // The value of a lower-case hexadecimal digit; 0 for any other byte.
 fn digit(c: u8) -> u64
@@ -19,10 +23,8 @@ fn digit(c: u8) -> u64
 // The number that hexadecimal digits stand for, of which the last 16 count.
 fn pattern(digits: &[u8]) -> u64 {
     let mut b: u64 = 0;
-    let mut i: usize = 0;
-    while i < digits.len() {
-        b = (b % 0x1000_0000_0000_0000) * 16 + digit(digits[i]);
-        i += 1;
+    for c in digits {
+        b = (b % 0x1000_0000_0000_0000) * 16 + digit(*c);
     }
     b
 }
@@ -49,29 +51,30 @@ fn put_line(out: &mut [u8], b: u64) -> usize {
 }
 
 // Replays a line; false where there is none.
-fn replay_line() -> bool {
+fn replay_line<R: Read, W: Write>(input: &mut R, output: &mut W) -> io::Result<bool> {
     let mut digits = [0u8; 16];
-    if io::read_full(STDIN_FILENO, &mut digits) < 16 {
-        return false;
+    if read_full(input, &mut digits)? < 16 {
+        return Ok(false);
     }
     let b = pattern(&digits);
     let mut line_feed = [0u8; 1];
-    io::read_full(STDIN_FILENO, &mut line_feed);
+    read_full(input, &mut line_feed)?;
     let mut line = [0u8; 128];
     let end = put_line(&mut line, b);
     if end <= 128 {
-        io::write_all(STDOUT_FILENO, &line[..end]);
+        output.write_all(&line[..end])?;
     }
-    true
+    Ok(true)
 }
 
-fn main() {
+fn main(rt: HostRuntime) -> io::Result<()> {
+    let mut input = rt.stdin();
+    let mut output = rt.stdout();
     // at most so many lines
-    let mut left: usize = 4096;
-    while 0 < left {
-        left -= 1;
-        if !replay_line() {
-            return;
+    for _ in 0..4096 {
+        if !replay_line(&mut input, &mut output)? {
+            break;
         }
     }
+    Ok(())
 }

@@ -1,4 +1,6 @@
 // Part files packed for the replayed lists: each run of zero bytes as a zero and the run's length.
+#![tactic(auto)]
+
 ghost use Rattle.std.specs.Prelude.{false, [], ◌∷◌, replicate};
 ghost use Rattle.num_text.specs.Put.{Put};
 ghost use Rattle.replay_packed.specs.Packed.{unpacked};

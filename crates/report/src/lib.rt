@@ -1,6 +1,12 @@
 // The report of a part's faults: its lines in their order, and the first line.
+#![tactic(auto)]
+
 mod head;
 mod line;
 mod name;
 mod order;
 pub mod report;
+
+// Passed on to the crates above.
+pub use report_faces;
+pub use report_faces::fault_text;

@@ -3,7 +3,7 @@ ghost use Rattle.std.specs.Prelude.{◌≡◌, ◌+◌, ◌*◌, ◌≤◌, leng
 ghost use Rattle.num_text.specs.Put.{Put};
 ghost use Rattle.file_part.specs.Part.{part_of};
 ghost use Rattle.fault_lines.specs.Lines.{lines_of};
-ghost use Rattle.fault_merge.specs.Work.{faults_to};
+ghost use Rattle.report_faces.specs.fault_merge.specs.Work.{faults_to};
 ghost use Rattle.report_faces.specs.Work.{Kept, Ready};
 ghost use Rattle.report.specs.Text.{report_text};
 ghost use Rattle.report.specs.Report.{Reported};
@@ -12,8 +12,8 @@ ghost use Rattle.report.specs.Work.{leads_of};
 use crate::head::put_head;
 use crate::line::put_lines;
 use crate::order::put_leads;
-use fault_merge::merge::merge;
 use fault_row::summary::Summary;
+use report_faces::fault_merge::merge::merge;
 use report_faces::links::put_links;
 use report_faces::marks::Listing;
 

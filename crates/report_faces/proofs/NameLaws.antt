@@ -24,9 +24,9 @@ use Rattle.print_overhang.specs.Overhang.{is_overhang, lean_of_word}
 use Rattle.print_overhang.specs.Kept.{Marks}
 use Rattle.fault_row.specs.declared.flaw.Flaw.{Flaw}
 use Rattle.fault_row.specs.declared.flaw.Flaw.TheVariants.{ThinWall, SmallHole, DeepHoleMax, DeepHoleStandard, TightInsideRadius, DeepInsideCorner, SharpInsideCorner, NoMaterial, Material, NotOneThickness, TightBend, ShortFlange, SheetSmallHole, HoleNearBend, HoleNearEdge, NotClosed, ThinnerThanALayer, FewLayers, ThinnerThanTheNozzle, PrintThinWall, PrintSmallHole, Overhang, EnclosedHollowSla, EnclosedHollowSls}
-use Rattle.fault_text.specs.Many.{face_of_body, hollow_faces, off_faces, overhang_faces}
-use Rattle.fault_text.specs.Told.{told}
-use Rattle.fault_text.specs.Good.{Good}
+use Rattle.fault_merge.specs.fault_text.specs.Many.{face_of_body, hollow_faces, off_faces, overhang_faces}
+use Rattle.fault_merge.specs.fault_text.specs.Told.{told}
+use Rattle.fault_merge.specs.fault_text.specs.Good.{Good}
 use Rattle.fault_lines.specs.Member.{In, Ordered}
 use Rattle.fault_lines.specs.Ids.{Lower}
 use Rattle.report_faces.specs.declared.named.Named.{Named}

@@ -8,7 +8,7 @@ use Rattle.fault_row.specs.declared.flaw.Flaw.{Flaw}
 use Rattle.fault_row.specs.declared.flaw.Flaw.TheVariants.{ThinWall, SmallHole, DeepHoleMax, DeepHoleStandard, TightInsideRadius, DeepInsideCorner, SharpInsideCorner, NoMaterial, Material, NotOneThickness, TightBend, ShortFlange, SheetSmallHole, HoleNearBend, HoleNearEdge, NotClosed, ThinnerThanALayer, FewLayers, ThinnerThanTheNozzle, PrintThinWall, PrintSmallHole, Overhang, EnclosedHollowSla, EnclosedHollowSls}
 use Rattle.fault_row.specs.Row.{row_at_of}
 use Rattle.fault_row.specs.Flaw.{flaw_of}
-use Rattle.fault_text.specs.Many.{hollow_faces, off_faces, overhang_faces}
+use Rattle.fault_merge.specs.fault_text.specs.Many.{hollow_faces, off_faces, overhang_faces}
 use Rattle.report_faces.specs.declared.named.Named.{Named}
 use Rattle.report_faces.specs.declared.named.Named.TheVariants.{NoFace, One, Two, Off, Hanging, Body}
 

@@ -2,3 +2,5 @@
 pub mod Corners
 pub mod Sharp
 pub mod Work
+-- Passed on to the crates above.
+pub use Rattle.fault_text

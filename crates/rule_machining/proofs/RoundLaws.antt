@@ -28,8 +28,8 @@ use Rattle.fault_row.specs.Row.{RowPut}
 use Rattle.fault_row.specs.Flaw.{row_of}
 use Rattle.fault_row.specs.Flaws.{FlawsPut}
 use Rattle.fault_row.proofs.FlawLaws.{flaws_none, flaws_one, flaws_then, flaws_same}
-use Rattle.fault_text.specs.Machining.{min_drill, min_mill_radius}
-use Rattle.fault_text.specs.Good.{Good}
+use Rattle.rule_corners.specs.fault_text.specs.Machining.{min_drill, min_mill_radius}
+use Rattle.rule_corners.specs.fault_text.specs.Good.{Good}
 use Rattle.rule_machining.specs.Machining.{standard_reach, max_reach, small_holes, deep_holes, tight_radii, deep_corners, hole_flaws, inside_flaws, round_flaws, flaws_of_rounds, rounds_flaws}
 use Rattle.rule_machining.specs.Work.{RoundPut}
 

@@ -21,7 +21,7 @@ use Rattle.wall_pairs.specs.Work.{WallsPut}
 use Rattle.wall_pairs.proofs.KeptLaws.{readings_kept}
 use Rattle.fault_row.specs.Flaws.{FlawsPut}
 use Rattle.fault_row.proofs.FlawLaws.{flaws_then}
-use Rattle.fault_text.specs.Good.{Good}
+use Rattle.rule_corners.specs.fault_text.specs.Good.{Good}
 use Rattle.rule_corners.specs.Work.{CornersPut}
 use Rattle.rule_corners.specs.Sharp.{sharp_corners}
 use Rattle.rule_machining.specs.Machining.{thin_walls, rounds_flaws}

@@ -38,9 +38,9 @@ use Rattle.fault_row.specs.Row.{RowPut}
 use Rattle.fault_row.specs.Flaw.{row_of}
 use Rattle.fault_row.specs.Flaws.{FlawsPut}
 use Rattle.fault_row.proofs.FlawLaws.{flaws_none, flaws_one, flaws_then, flaws_same}
-use Rattle.fault_text.specs.Job.{min_wall_of}
-use Rattle.fault_text.specs.Good.{Good}
-use Rattle.fault_text.proofs.JobLaws.{min_wall_accepted}
+use Rattle.rule_corners.specs.fault_text.specs.Job.{min_wall_of}
+use Rattle.rule_corners.specs.fault_text.specs.Good.{Good}
+use Rattle.rule_corners.specs.fault_text.proofs.JobLaws.{min_wall_accepted}
 use Rattle.rule_machining.specs.Machining.{wall_severity, wall_flaw, thin_walls}
 use Rattle.rule_machining.specs.Work.{WallPut}
 

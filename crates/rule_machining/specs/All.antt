@@ -8,7 +8,7 @@ use Rattle.scratch.specs.Standing.{Standing}
 use Rattle.solid_ranks.specs.Kept.{Ranked}
 use Rattle.fault_row.specs.declared.flaw.Flaw.{Flaw}
 use Rattle.fault_row.specs.Flaws.{FlawsPut}
-use Rattle.fault_text.specs.Good.{Good}
+use Rattle.rule_corners.specs.fault_text.specs.Good.{Good}
 use Rattle.rule_corners.specs.Sharp.{sharp_corners}
 use Rattle.rule_machining.specs.Machining.{thin_walls, rounds_flaws}
 

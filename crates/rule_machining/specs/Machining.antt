@@ -12,8 +12,8 @@ use Rattle.fault_row.specs.declared.fault.Severity.{Severity}
 use Rattle.fault_row.specs.declared.fault.Severity.TheVariants.{Error, Warning}
 use Rattle.fault_row.specs.declared.flaw.Flaw.{Flaw}
 use Rattle.fault_row.specs.declared.flaw.Flaw.TheVariants.{ThinWall, SmallHole, DeepHoleMax, DeepHoleStandard, TightInsideRadius, DeepInsideCorner}
-use Rattle.fault_text.specs.Job.{min_wall_of}
-use Rattle.fault_text.specs.Machining.{min_drill, min_mill_radius}
+use Rattle.rule_corners.specs.fault_text.specs.Job.{min_wall_of}
+use Rattle.rule_corners.specs.fault_text.specs.Machining.{min_drill, min_mill_radius}
 
 -- `STANDARD_REACH` and `MAX_REACH`: the f64 4.0 and 10.0
 abbrev pub standard_reach : Float

@@ -14,8 +14,8 @@ use Rattle.measure_sizes.specs.Round.{RoundBounds}
 use Rattle.wall_pairs.specs.declared.NextWall.{NextWall}
 use Rattle.fault_row.specs.declared.flaw.Flaw.{Flaw}
 use Rattle.fault_row.specs.Flaws.{FlawsPut}
-use Rattle.fault_text.specs.Job.{min_wall_of}
-use Rattle.fault_text.specs.Good.{Good}
+use Rattle.rule_corners.specs.fault_text.specs.Job.{min_wall_of}
+use Rattle.rule_corners.specs.fault_text.specs.Good.{Good}
 use Rattle.rule_machining.specs.declared.machining.WallCounts.{WallCounts}
 use Rattle.rule_machining.specs.Machining.{wall_flaw, thin_walls}
 

@@ -1,4 +1,6 @@
 // The faults of machining, put as rows.
+#![tactic(auto)]
+
 pub mod machining;
 pub mod rounds;
 pub mod walls;

@@ -6,14 +6,14 @@ ghost use Rattle.scratch.specs.Standing.{Standing};
 ghost use Rattle.round_all.specs.Kept.{Rounds};
 ghost use Rattle.wall_pairs.specs.Work.{Counted};
 ghost use Rattle.fault_row.specs.Flaws.{FlawsPut};
-ghost use Rattle.fault_text.specs.Good.{Good};
+ghost use Rattle.rule_corners.specs.fault_text.specs.Good.{Good};
 ghost use Rattle.rule_machining.specs.Machining.{small_holes, deep_holes, tight_radii, deep_corners, hole_flaws, inside_flaws, round_flaws, rounds_flaws};
 ghost use Rattle.rule_machining.specs.Work.{RoundPut};
 
 use crate::Given;
 use fault_row::flaw::{Flaw, put_flaw};
-use fault_text::machining::{MIN_DRILL, MIN_MILL_RADIUS};
 use round_all::round::{Round, round_at};
+use rule_corners::fault_text::machining::{MIN_DRILL, MIN_MILL_RADIUS};
 
 // How many diameters deep a standard drill or end mill reaches.
 const STANDARD_REACH: f64 = 4.0;

@@ -8,14 +8,14 @@ ghost use Rattle.wall_samples.specs.Samples.{readings_of};
 ghost use Rattle.wall_pairs.specs.Work.{Counted, WallsOrdered};
 ghost use Rattle.fault_row.specs.declared.fault.Severity.TheVariants.{Error, Warning};
 ghost use Rattle.fault_row.specs.Flaws.{FlawsPut};
-ghost use Rattle.fault_text.specs.Good.{Good};
+ghost use Rattle.rule_corners.specs.fault_text.specs.Good.{Good};
 ghost use Rattle.rule_machining.specs.Machining.{thin_walls};
 ghost use Rattle.rule_machining.specs.Work.{WallPut};
 
 use crate::Given;
 use fault_row::fault::Severity;
 use fault_row::flaw::{Flaw, put_flaw};
-use fault_text::job::min_wall;
+use rule_corners::fault_text::job::min_wall;
 use wall_pairs::{NextWall, least, next_wall};
 
 // Thinner than half of what the material needs, a wall can't be made.

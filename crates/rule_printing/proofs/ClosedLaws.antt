@@ -28,7 +28,7 @@ use Rattle.fault_row.specs.Row.{RowPut}
 use Rattle.fault_row.specs.Flaw.{row_of}
 use Rattle.fault_row.specs.Flaws.{FlawsPut}
 use Rattle.fault_row.proofs.FlawLaws.{flaws_none, flaws_one, flaws_same}
-use Rattle.fault_text.specs.Good.{Good}
+use Rattle.print_walls.specs.fault_text.specs.Good.{Good}
 use Rattle.rule_printing.specs.Closed.{is_open, open_keys, not_closed}
 use Rattle.rule_printing.specs.Work.{NotClosedPut}
 

@@ -31,8 +31,8 @@ use Rattle.fault_row.specs.Row.{RowPut}
 use Rattle.fault_row.specs.Flaw.{row_of}
 use Rattle.fault_row.specs.Flaws.{FlawsPut}
 use Rattle.fault_row.proofs.FlawLaws.{flaws_none, flaws_one, flaws_then, flaws_same}
-use Rattle.fault_text.specs.Good.{Good}
-use Rattle.fault_text.proofs.SettingsLaws.{print_hole_accepted}
+use Rattle.print_walls.specs.fault_text.specs.Good.{Good}
+use Rattle.print_walls.specs.fault_text.proofs.SettingsLaws.{print_hole_accepted}
 use Rattle.rule_printing.specs.Rules.{small_hole, print_holes}
 use Rattle.rule_printing.specs.Work.{HolePut}
 

@@ -42,7 +42,7 @@ use Rattle.fault_row.specs.Flaw.{row_of}
 use Rattle.fault_row.specs.Flaws.{FlawsPut}
 use Rattle.fault_row.proofs.RowLaws.{row_put_same}
 use Rattle.fault_row.proofs.FlawLaws.{flaws_none, flaws_one, flaws_then, flaws_same}
-use Rattle.fault_text.specs.Good.{Good}
+use Rattle.print_walls.specs.fault_text.specs.Good.{Good}
 use Rattle.rule_printing.specs.Rules.{is_hollow, is_sls, hollow_flaw, hollows, traps_hollows_of}
 use Rattle.rule_printing.specs.Work.{HollowPut}
 

@@ -26,8 +26,8 @@ use Rattle.fault_row.specs.declared.flaw.Flaw.TheVariants as flaw
 use Rattle.fault_row.specs.Row.{RowPut}
 use Rattle.fault_row.specs.Flaw.{row_of}
 use Rattle.fault_row.proofs.FlawLaws.{flaws_none, flaws_one, flaws_same}
-use Rattle.fault_text.specs.Good.{Good}
-use Rattle.fault_text.proofs.SettingsLaws.{limit_accepted}
+use Rattle.print_walls.specs.fault_text.specs.Good.{Good}
+use Rattle.print_walls.specs.fault_text.proofs.SettingsLaws.{limit_accepted}
 use Rattle.rule_printing.specs.Work.{HeightsAre, OverhangPut}
 
 -- ---- what polygons are held against

@@ -37,7 +37,7 @@ use Rattle.fault_row.specs.declared.flaw.Flaw.TheVariants as flaw
 use Rattle.fault_row.specs.Flaws.{FlawsPut}
 use Rattle.fault_row.specs.Summary.{print_summary}
 use Rattle.fault_row.proofs.FlawLaws.{flaws_none, flaws_then, flaws_same}
-use Rattle.fault_text.specs.Good.{Good}
+use Rattle.print_walls.specs.fault_text.specs.Good.{Good}
 use Rattle.rule_printing.specs.declared.printing.Upright.{Upright}
 use Rattle.rule_printing.specs.Closed.{not_closed}
 use Rattle.rule_printing.specs.Rules.{print_holes, overhangs, hollows, traps_hollows_of}

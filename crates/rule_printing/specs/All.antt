@@ -15,7 +15,7 @@ use Rattle.fault_row.specs.declared.summary.Found.{Found}
 use Rattle.fault_row.specs.declared.flaw.Flaw.{Flaw}
 use Rattle.fault_row.specs.Flaws.{FlawsPut}
 use Rattle.fault_row.specs.Summary.{print_summary}
-use Rattle.fault_text.specs.Good.{Good}
+use Rattle.print_walls.specs.fault_text.specs.Good.{Good}
 use Rattle.rule_printing.specs.Closed.{not_closed}
 use Rattle.rule_printing.specs.Rules.{print_holes, overhangs, hollows, traps_hollows_of}
 

@@ -20,7 +20,7 @@ use Rattle.print_overhang.specs.Overhang.{lean_of_word, overhang_count, overhang
 use Rattle.fault_row.specs.declared.flaw.Flaw.{Flaw}
 use Rattle.fault_row.specs.declared.flaw.Flaw.TheVariants as flaw
 use Rattle.fault_row.specs.Flaws.{FlawsPut}
-use Rattle.fault_text.specs.Good.{Good}
+use Rattle.print_walls.specs.fault_text.specs.Good.{Good}
 use Rattle.rule_printing.specs.declared.printing.Upright.{Upright}
 use Rattle.rule_printing.specs.Rules.{is_hollow, hollow_flaw}
 

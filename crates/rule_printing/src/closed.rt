@@ -4,7 +4,7 @@ ghost use Rattle.file_part.specs.Part.{part_of};
 ghost use Rattle.solid_faces.specs.Faces.{faces_of};
 ghost use Rattle.scratch.specs.Standing.{Standing};
 ghost use Rattle.fault_row.specs.Flaws.{FlawsPut};
-ghost use Rattle.fault_text.specs.Good.{Good};
+ghost use Rattle.print_walls.specs.fault_text.specs.Good.{Good};
 ghost use Rattle.rule_printing.specs.Closed.{open_keys, not_closed};
 ghost use Rattle.rule_printing.specs.Work.{NotClosedPut};
 

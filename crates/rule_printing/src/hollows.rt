@@ -3,13 +3,13 @@ ghost use Rattle.std.specs.Prelude.{◌≡◌, true, ◌+◌, ◌≤◌, ◌<◌
 ghost use Rattle.file_part.specs.Part.{part_of};
 ghost use Rattle.scratch.specs.Standing.{Standing};
 ghost use Rattle.fault_row.specs.Flaws.{FlawsPut};
-ghost use Rattle.fault_text.specs.Good.{Good};
+ghost use Rattle.print_walls.specs.fault_text.specs.Good.{Good};
 ghost use Rattle.rule_printing.specs.Rules.{hollows, traps_hollows_of, is_sls};
 ghost use Rattle.rule_printing.specs.Work.{HollowPut};
 
 use fault_row::flaw::{Flaw, put_flaw};
-use fault_text::job::job_of;
 use file_job::Process;
+use print_walls::fault_text::job::job_of;
 use scratch::regions::Regions;
 
 // Whether hollows trap what the part is made from.

@@ -1,4 +1,6 @@
 // The faults of printing, put as rows.
+#![tactic(auto)]
+
 pub mod closed;
 pub mod hollows;
 pub mod overhang;

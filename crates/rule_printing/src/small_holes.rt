@@ -5,12 +5,12 @@ ghost use Rattle.solid_faces.specs.Faces.{faces_of};
 ghost use Rattle.scratch.specs.Standing.{Standing};
 ghost use Rattle.round_all.specs.Kept.{Rounds};
 ghost use Rattle.fault_row.specs.Flaws.{FlawsPut};
-ghost use Rattle.fault_text.specs.Good.{Good};
+ghost use Rattle.print_walls.specs.fault_text.specs.Good.{Good};
 ghost use Rattle.rule_printing.specs.Rules.{print_holes};
 ghost use Rattle.rule_printing.specs.Work.{HolePut};
 
 use fault_row::flaw::{Flaw, put_flaw};
-use fault_text::job::job_of;
+use print_walls::fault_text::job::job_of;
 use round_all::round::{Round, round_at};
 use scratch::regions::Regions;
 

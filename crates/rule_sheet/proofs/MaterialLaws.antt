@@ -17,8 +17,8 @@ use Rattle.fault_row.specs.declared.flaw.Flaw.TheVariants.{NoMaterial, Material}
 use Rattle.fault_row.specs.Row.{RowPut}
 use Rattle.fault_row.specs.Flaw.{row_of}
 use Rattle.fault_row.proofs.FlawLaws.{flaws_none, flaws_one, flaws_same}
-use Rattle.fault_text.specs.Good.{Good}
-use Rattle.fault_text.specs.Good.{Good}
+use Rattle.rule_flanges.specs.fault_text.specs.Good.{Good}
+use Rattle.rule_flanges.specs.fault_text.specs.Good.{Good}
 use Rattle.rule_sheet.specs.Material.{is_metal, is_formed, ratio_of, material_flaws}
 use Rattle.rule_sheet.specs.Work.{MaterialPut}
 

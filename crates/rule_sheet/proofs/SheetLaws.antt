@@ -44,7 +44,7 @@ use Rattle.fault_row.specs.Flaws.{FlawsPut}
 use Rattle.fault_row.specs.Summary.{no_summary, sheet_summary}
 use Rattle.fault_row.proofs.RowLaws.{row_put_same}
 use Rattle.fault_row.proofs.FlawLaws.{flaws_none, flaws_one, flaws_then, flaws_same}
-use Rattle.fault_text.specs.Good.{Good}
+use Rattle.rule_flanges.specs.fault_text.specs.Good.{Good}
 use Rattle.rule_flanges.specs.Flanges.{short_flanges}
 use Rattle.rule_holes.specs.Holes.{sheet_holes}
 use Rattle.rule_sheet.specs.declared.ready.Ready.{Ready}

@@ -35,8 +35,8 @@ use Rattle.fault_row.specs.Row.{RowPut}
 use Rattle.fault_row.specs.Flaw.{row_of}
 use Rattle.fault_row.specs.Flaws.{FlawsPut}
 use Rattle.fault_row.proofs.FlawLaws.{flaws_none, flaws_one, flaws_then, flaws_same}
-use Rattle.fault_text.specs.Good.{Good}
-use Rattle.fault_text.proofs.JobLaws.{ratio_to}
+use Rattle.rule_flanges.specs.fault_text.specs.Good.{Good}
+use Rattle.rule_flanges.specs.fault_text.proofs.JobLaws.{ratio_to}
 use Rattle.rule_sheet.specs.Material.{ratio_of}
 use Rattle.rule_sheet.specs.Tight as tight
 use Rattle.rule_sheet.specs.Work.{TightPut}

@@ -15,7 +15,7 @@ use Rattle.fault_row.specs.declared.flaw.Flaw.{Flaw}
 use Rattle.fault_row.specs.declared.flaw.Flaw.TheVariants.{NotOneThickness}
 use Rattle.fault_row.specs.Flaws.{FlawsPut}
 use Rattle.fault_row.specs.Summary.{no_summary, sheet_summary}
-use Rattle.fault_text.specs.Good.{Good}
+use Rattle.rule_flanges.specs.fault_text.specs.Good.{Good}
 use Rattle.rule_flanges.specs.Flanges.{short_flanges}
 use Rattle.rule_holes.specs.Holes.{sheet_holes}
 use Rattle.rule_sheet.specs.Material.{is_formed, material_flaws}

@@ -3,3 +3,6 @@ pub mod Material
 pub mod Tight
 pub mod All
 pub mod Work
+-- Passed on to the crates above.
+pub use Rattle.rule_flanges
+pub use Rattle.rule_holes

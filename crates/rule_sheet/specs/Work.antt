@@ -25,7 +25,7 @@ use Rattle.fault_row.specs.declared.summary.Summary.{Summary}
 use Rattle.fault_row.specs.declared.summary.Found.{Found}
 use Rattle.fault_row.specs.Flaws.{FlawsPut}
 use Rattle.fault_row.specs.Summary.{no_summary, sheet_summary}
-use Rattle.fault_text.specs.Good.{Good}
+use Rattle.rule_flanges.specs.fault_text.specs.Good.{Good}
 use Rattle.rule_sheet.specs.declared.ready.Ready.{Ready}
 use Rattle.rule_sheet.specs.Material.{material_flaws}
 use Rattle.rule_sheet.specs.Tight.{tight_bend}

@@ -7,7 +7,7 @@ ghost use Rattle.solid_ranks.specs.Kept.{Ranked};
 ghost use Rattle.measure_sizes.specs.Reading.{ReadingBounds};
 ghost use Rattle.sheet_bends.specs.Work.{SheetStands};
 ghost use Rattle.fault_row.specs.Flaws.{FlawsPut};
-ghost use Rattle.fault_text.specs.Good.{Good};
+ghost use Rattle.rule_flanges.specs.fault_text.specs.Good.{Good};
 ghost use Rattle.rule_sheet.specs.All.{bent_flaws, SheetPut};
 ghost use Rattle.rule_sheet.specs.Work.{UnevenPut, FormedPut};
 
@@ -16,7 +16,7 @@ use crate::ready::make_ready;
 use crate::tight::put_tight_bends;
 use fault_row::flaw::{Flaw, put_flaw};
 use fault_row::summary::{Found, Summary};
-use fault_text::job::job_of;
+use rule_flanges::fault_text::job::job_of;
 use rule_flanges::flanges::put_short_flanges;
 use rule_holes::holes::put_holes;
 use scratch::regions::Regions;

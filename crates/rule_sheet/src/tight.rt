@@ -4,14 +4,14 @@ ghost use Rattle.file_part.specs.Part.{part_of};
 ghost use Rattle.measure_sizes.specs.Reading.{ReadingBounds};
 ghost use Rattle.sheet_bends.specs.Work.{SheetStands};
 ghost use Rattle.fault_row.specs.Flaws.{FlawsPut};
-ghost use Rattle.fault_text.specs.Good.{Good};
+ghost use Rattle.rule_flanges.specs.fault_text.specs.Good.{Good};
 ghost use Rattle.rule_sheet.specs.Tight.{tight_bends};
 ghost use Rattle.rule_sheet.specs.Work.{TightPut};
 
 use crate::material::ratio_of;
 use fault_row::flaw::{Flaw, put_flaw};
-use fault_text::job::job_of;
 use round_all::round::{Round, round_at};
+use rule_flanges::fault_text::job::job_of;
 use sheet_bends::{Sheet, bend_at};
 
 // The row of a bend whose inside is tighter than it may be, after `from` others. How many there are then.

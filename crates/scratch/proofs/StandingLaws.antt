@@ -8,8 +8,8 @@ use Rattle.list_laws.specs.Region.{part, Outside}
 use Rattle.list_laws.proofs.Outside.{part_kept, outside_part}
 use Rattle.file_part.specs.Part.{part_of}
 use Rattle.file_part.proofs.PartLaws.{part_vertices, part_polygons}
-use Rattle.solid_segments.specs.Sides.{SharedSegments}
-use Rattle.solid_bodies.proofs.BodyLaws.{labels_as}
+use Rattle.solid_volumes.specs.solid_segments.specs.Sides.{SharedSegments}
+use Rattle.solid_volumes.specs.solid_bodies.proofs.BodyLaws.{labels_as}
 use Rattle.solid_volumes.specs.Volume.{Volumes}
 use Rattle.solid_boxes.specs.Tree.{PartTree}
 use Rattle.solid_faces.specs.Kept.{Faces, Chain, KeptPlanes, KeptAreas, FaceAreas}

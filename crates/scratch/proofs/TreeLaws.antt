@@ -10,8 +10,8 @@ use Rattle.list_laws.specs.Region.{part}
 use Rattle.list_laws.proofs.Regions.{part_put}
 use Rattle.list_laws.proofs.Outside.{outside_none, outside_put, outside_part, outside_after}
 use Rattle.file_part.specs.Part.{Part, part_of}
-use Rattle.solid_segments.specs.Sides.{SharedSegments}
-use Rattle.solid_bodies.proofs.BodyLaws.{labels_as}
+use Rattle.solid_volumes.specs.solid_segments.specs.Sides.{SharedSegments}
+use Rattle.solid_volumes.specs.solid_bodies.proofs.BodyLaws.{labels_as}
 use Rattle.solid_volumes.specs.Volume.{Volumes}
 use Rattle.solid_faces.specs.Kept.{Faces, Chain, KeptPlanes, KeptAreas, FaceAreas}
 use Rattle.solid_boxes.specs.Tree.{PartTree}

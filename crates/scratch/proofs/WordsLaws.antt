@@ -17,10 +17,10 @@ use Rattle.list_laws.proofs.Regions.{part_length, put_length, part_put, part_pla
 use Rattle.list_laws.proofs.Outside.{outside_none, outside_then, outside_wide, outside_put, outside_part, outside_after}
 use Rattle.list_laws.proofs.Fill.{filled_at}
 use Rattle.file_part.specs.Part.{Part}
-use Rattle.solid_segments.specs.Sides.{SharedSegments}
-use Rattle.solid_segments.proofs.SharedLaws.{shared_front}
-use Rattle.solid_bodies.specs.Body.{Labels, Bodies}
-use Rattle.solid_bodies.proofs.BodyLaws.{labels_as}
+use Rattle.solid_volumes.specs.solid_segments.specs.Sides.{SharedSegments}
+use Rattle.solid_volumes.specs.solid_segments.proofs.SharedLaws.{shared_front}
+use Rattle.solid_volumes.specs.solid_bodies.specs.Body.{Labels, Bodies}
+use Rattle.solid_volumes.specs.solid_bodies.proofs.BodyLaws.{labels_as}
 use Rattle.solid_faces.specs.Faces.{faces_of, face_number, first_polygon, next_of, next_polygon}
 use Rattle.solid_faces.specs.Kept.{Faces, Chain}
 use Rattle.solid_faces.proofs.FaceLaws.{Begins, first_polygon_begins}

@@ -3,8 +3,8 @@ use Rattle.std.specs.Prelude.{◌≡◌, true, List, ℕ, ◌≤◌, ◌<◌, le
 use Rattle.list_laws.specs.Region.{part}
 use Rattle.file_part.specs.Layout.{vertex_count_of, polygon_count_of}
 use Rattle.file_part.specs.Part.{Part, part_of}
-use Rattle.solid_segments.specs.Sides.{SharedSegments}
-use Rattle.solid_bodies.specs.Body.{Labels}
+use Rattle.solid_volumes.specs.solid_segments.specs.Sides.{SharedSegments}
+use Rattle.solid_volumes.specs.solid_bodies.specs.Body.{Labels}
 use Rattle.solid_volumes.specs.Volume.{Volumes}
 use Rattle.solid_boxes.specs.Tree.{PartTree}
 use Rattle.solid_faces.specs.Faces.{Checked}

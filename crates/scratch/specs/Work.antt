@@ -4,8 +4,8 @@ use Rattle.std.specs.Float.{nan}
 use Rattle.list_laws.specs.Region.{part, Outside}
 use Rattle.file_part.specs.Part.{Part}
 use Rattle.solid_faces.specs.Kept.{Faces, FaceAreas}
-use Rattle.solid_segments.specs.Sides.{SharedSegments}
-use Rattle.solid_bodies.specs.Body.{Labels}
+use Rattle.solid_volumes.specs.solid_segments.specs.Sides.{SharedSegments}
+use Rattle.solid_volumes.specs.solid_bodies.specs.Body.{Labels}
 use Rattle.solid_volumes.specs.Volume.{Volumes}
 use Rattle.solid_boxes.specs.Tree.{PartTree}
 use Rattle.scratch.specs.declared.regions.Regions.{Regions}

@@ -46,7 +46,7 @@ fn put_labels(file: &[u8], words: &mut [u32], at: Regions)
     }
     let start: usize = 0;
     let work = at.work;
-    solid_bodies::label::bodies(file, &mut words[start..work]);
+    solid_volumes::solid_bodies::label::bodies(file, &mut words[start..work]);
 }
 
 // The sides, where the process asks for segments.
@@ -60,7 +60,7 @@ fn put_sides(file: &[u8], words: &mut [u32], at: Regions)
     }
     let sides = at.sides;
     let faces = at.faces;
-    solid_segments::shared::shared_segments(file, &mut words[sides..faces]);
+    solid_volumes::solid_segments::shared::shared_segments(file, &mut words[sides..faces]);
 }
 
 // The bodies and the sides that are asked for, the faces and the polygons of each. The number of faces.

@@ -1,4 +1,6 @@
 // The lent scratch: its regions, and the body of a part put there.
+#![tactic(auto)]
+
 pub mod body;
 pub mod regions;
 pub mod tree;

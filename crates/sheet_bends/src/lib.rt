@@ -1,4 +1,6 @@
 // The bends of a sheet: concave rounds that are no holes, each with the first convex one around it.
+#![tactic(auto)]
+
 ghost use Rattle.std.specs.Prelude.{◌≡◌, true, ◌≤◌, ◌<◌, length};
 ghost use Rattle.file_part.specs.Part.{part_of};
 ghost use Rattle.solid_faces.specs.Faces.{faces_of};

@@ -8,8 +8,8 @@ use Rattle.list_median.proofs.MedianLaws.{median_some}
 use Rattle.file_part.specs.Part.{Part, part_of}
 use Rattle.solid_faces.specs.Faces.{Checked}
 use Rattle.wall_samples.specs.Samples.{readings_of}
-use Rattle.measure_sizes.specs.Reading.{ReadingBounds}
-use Rattle.measure_sizes.proofs.Readings.{reading_bounds}
+use Rattle.wall_median.specs.measure_sizes.specs.Reading.{ReadingBounds}
+use Rattle.wall_median.specs.measure_sizes.proofs.Readings.{reading_bounds}
 use Rattle.wall_median.specs.Rough.{thicknesses, areas, reading_median}
 use Rattle.wall_median.proofs.RoughLaws.{thickness_at}
 use Rattle.sheet_thickness.specs.Thickness.{kept_readings, sorted_readings, thickness_of, thinnest_of, thickest_of}

@@ -1,4 +1,6 @@
 // The thickness of a sheet: the median of the readings that are not near their face's boundary, and whether the part is this thick throughout.
+#![tactic(auto)]
+
 ghost use Rattle.std.specs.Prelude.{◌≡◌, ◌+◌, ◌≤◌, ◌<◌, length, get_or};
 ghost use Rattle.std.specs.Float.{nan};
 ghost use Rattle.list_laws.specs.Region.{Outside};

@@ -3,3 +3,5 @@
 --   Work      the corners of a part in a list, the table of slots, the memory; Work/Forest: a forest of parents and what its functions do
 pub mod Body
 pub mod Work
+-- Passed on to the crates above.
+pub use Rattle.solid_segments

@@ -22,8 +22,8 @@ use Rattle.file_field.specs.Field.{vec_at_of}
 use Rattle.file_part.specs.Layout.{vertex_count_of, polygon_count_of, entry_at}
 use Rattle.file_part.specs.Part.{first_at, count_at_of, polygon_at, part_of}
 use Rattle.file_part.proofs.PartLaws.{part_polygons, part_count}
-use Rattle.file_ok.proofs.ReadableLaws.{readable_counts, readable_run, readable_vertex, readable_index}
-use Rattle.solid_polygon.specs.Work.{corner_at, Corners}
+use Rattle.solid_faces.specs.file_ok.proofs.ReadableLaws.{readable_counts, readable_run, readable_vertex, readable_index}
+use Rattle.solid_faces.specs.solid_polygon.specs.Work.{corner_at, Corners}
 use Rattle.solid_faces.specs.Faces.{polygon_corner, Checked}
 use Rattle.solid_faces.proofs.BodyLaws.{checked_readable}
 use Rattle.solid_boxes.specs.declared.bounds.Bounds.{Bounds}

@@ -2,7 +2,7 @@
 ghost use Rattle.std.specs.Prelude.{◌≡◌, ◌<◌};
 ghost use Rattle.file_part.specs.Layout.{vertex_count_of, polygon_count_of};
 ghost use Rattle.file_part.specs.Part.{part_of};
-ghost use Rattle.solid_polygon.specs.Work.{corner_at, Corners};
+ghost use Rattle.solid_faces.specs.solid_polygon.specs.Work.{corner_at, Corners};
 ghost use Rattle.solid_faces.specs.Faces.{Checked};
 ghost use Rattle.solid_boxes.specs.Bounds.{hull_of, widened, e_6, padded, own_box_of};
 

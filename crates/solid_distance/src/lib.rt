@@ -1,3 +1,5 @@
 // How far a point is from a segment.
+#![tactic(auto)]
+
 pub mod kept;
 pub mod segment;

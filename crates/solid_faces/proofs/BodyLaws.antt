@@ -12,15 +12,15 @@ use borrow.Author.Tests.{not-true, not-false, eqb-true, eq-eqb, ne_eqb, leb-true
 use Rattle.num_float.proofs.Tests.{contrary}
 use Rattle.list_laws.specs.Below.{all_below, sum_below}
 use Rattle.list_laws.proofs.Below.{all_none, all_more, all_each, all_fails}
-use Rattle.file_part.specs.declared.read.FaceId.{FaceId}
+use Rattle.solid_polygon.specs.file_part.specs.declared.read.FaceId.{FaceId}
 use Rattle.file_ok.specs.declared.verdict.Verdict.{Verdict}
 use Rattle.file_ok.specs.declared.verdict.Verdict.TheVariants.{Accepted, TooShort, WrongEdition, TooLarge, WrongLength, BadJob, BadVertex, BadPolygon, FlatPolygon, TooManyFaces}
-use Rattle.file_part.specs.Layout.{vertex_count_of, polygon_count_of, entry_at}
-use Rattle.file_part.specs.Part.{Part, face_at, first_at, count_at_of, polygon_at, part_of}
+use Rattle.solid_polygon.specs.file_part.specs.Layout.{vertex_count_of, polygon_count_of, entry_at}
+use Rattle.solid_polygon.specs.file_part.specs.Part.{Part, face_at, first_at, count_at_of, polygon_at, part_of}
 use Rattle.file_ok.specs.Rules.{run_start}
 use Rattle.file_ok.specs.Verdict.{number, verdict_of}
 use Rattle.file_ok.specs.Work.{Readable}
-use Rattle.file_part.proofs.PartLaws.{part_polygons}
+use Rattle.solid_polygon.specs.file_part.proofs.PartLaws.{part_polygons}
 use Rattle.file_ok.proofs.ReadableLaws.{readable_length, readable_counts, readable_run, readable_whole, readable_vertex, readable_index}
 use Rattle.solid_polygon.specs.declared.polygon.Plane.{Plane}
 use Rattle.solid_polygon.specs.Polygon.{area_of_word}

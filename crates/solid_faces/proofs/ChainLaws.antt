@@ -11,7 +11,7 @@ use lib.ListN.{get_or}
 use borrow.Author.Tests.{eqb-true, eq-eqb, leb-true, le-leb}
 use Rattle.num_float.proofs.Tests.{refuted, contrary, and_true, and_left, and_right, lt_or_ge}
 use Rattle.list_laws.proofs.Count.{lowest_le, lowest_passes, lowest_least, lowest_is}
-use Rattle.file_part.specs.Part.{Part}
+use Rattle.solid_polygon.specs.file_part.specs.Part.{Part}
 use Rattle.solid_faces.specs.Faces.{is_new, face_number, next_of, next_polygon}
 use Rattle.solid_faces.specs.Kept.{Chain}
 use Rattle.solid_faces.proofs.FaceLaws.{same_is, new_is, first_least, same_number}

@@ -1,7 +1,7 @@
 -- There are no more faces than polygons.
 use Prim.Native.Nat.{◌≤◌}
 use Rattle.list_laws.proofs.Count.{count_le}
-use Rattle.file_part.specs.Part.{Part}
+use Rattle.solid_polygon.specs.file_part.specs.Part.{Part}
 use Rattle.solid_faces.specs.Faces.{is_new, face_count, faces_of}
 
 pub few_faces : (t : Part) → faces_of t ≤ t.polygons

@@ -9,8 +9,8 @@ use lib.Dec.{eqb}
 use borrow.Author.Tests.{eqb-true, eq-eqb}
 use Rattle.num_float.proofs.Tests.{refuted, and_true, and_left, and_right, lt_or_ge}
 use Rattle.list_laws.proofs.Count.{count_none, count_more, count_same, count_mono, count_less, lowest_le, lowest_passes, lowest_below_lem, lowest_is}
-use Rattle.file_part.specs.declared.read.FaceId.{FaceId}
-use Rattle.file_part.specs.Part.{Part}
+use Rattle.solid_polygon.specs.file_part.specs.declared.read.FaceId.{FaceId}
+use Rattle.solid_polygon.specs.file_part.specs.Part.{Part}
 use Rattle.solid_faces.specs.Faces.{same_face, first_of, is_new, face_count, faces_of, face_number, first_polygon}
 
 -- ---- one face

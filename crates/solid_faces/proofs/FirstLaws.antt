@@ -11,7 +11,7 @@ use lib.ListN.{length, get_or, set, length-set}
 use lib.Seq.{get_or-set_same, get_or-set_other}
 use borrow.Author.Tests.{eq-eqb, ne_eqb, le-leb, lt-leb}
 use Rattle.num_float.proofs.Tests.{contrary, lt_or_ge, refuted}
-use Rattle.file_part.specs.Part.{Part}
+use Rattle.solid_polygon.specs.file_part.specs.Part.{Part}
 use Rattle.solid_faces.specs.Faces.{same_face, first_of, is_new, face_count, faces_of, face_number, first_polygon}
 use Rattle.solid_faces.specs.Kept.{FaceNumbers, Faces}
 use Rattle.solid_faces.specs.Work.{from, Firsts}

@@ -16,7 +16,7 @@ use Rattle.num_float.proofs.Tests.{lt_or_ge}
 use Rattle.list_laws.proofs.Fill.{filled_at}
 use Rattle.list_laws.proofs.Stores.{stores, stores_length, stores_below, stores_at}
 use Rattle.math.specs.Vector as vector
-use Rattle.file_part.specs.Part.{Part}
+use Rattle.solid_polygon.specs.file_part.specs.Part.{Part}
 use Rattle.solid_polygon.specs.declared.polygon.Plane.{Plane}
 use Rattle.solid_faces.specs.Faces.{face_number, polygon_area, polygon_plane, face_area_to, face_area}
 use Rattle.solid_faces.specs.Kept.{KeptAreas, FaceAreas, plane_at_of, KeptPlanes}

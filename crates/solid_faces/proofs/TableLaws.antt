@@ -14,8 +14,8 @@ use Rattle.solid_keys.specs.Work.{Heads, Next}
 use Rattle.solid_keys.proofs.CountLaws.{above_fails}
 use Rattle.solid_keys.proofs.ChainLaws.{heads_start, heads_more, next_more}
 use Rattle.solid_keys.proofs.WalkLaws.{Walk, walk_start, walk_on, walk_falls, walk_end}
-use Rattle.file_part.specs.declared.read.FaceId.{FaceId}
-use Rattle.file_part.specs.Part.{Part}
+use Rattle.solid_polygon.specs.file_part.specs.declared.read.FaceId.{FaceId}
+use Rattle.solid_polygon.specs.file_part.specs.Part.{Part}
 use Rattle.solid_faces.specs.Faces.{same_face, is_new, face_number, first_polygon}
 use Rattle.solid_faces.specs.Work.{from, Firsts, id_slot, face_slot, Table}
 use Rattle.solid_faces.proofs.FaceLaws.{same_is, number_new, first_polygon_new}

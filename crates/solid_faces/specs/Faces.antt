@@ -6,10 +6,10 @@ use Rattle.std.specs.Float.Ieee.{add}
 use Rattle.list_laws.specs.Below.{all_below, count_below, lowest_below}
 use Rattle.math.specs.declared.Vec3.{Vec3}
 use Rattle.math.specs.Vector as vector
-use Rattle.file_part.specs.declared.read.FaceId.{FaceId}
+use Rattle.solid_polygon.specs.file_part.specs.declared.read.FaceId.{FaceId}
 use Rattle.file_ok.specs.declared.verdict.Verdict.{Verdict}
 use Rattle.file_ok.specs.declared.verdict.Verdict.TheVariants.{Accepted, FlatPolygon, TooManyFaces}
-use Rattle.file_part.specs.Part.{Part, part_of}
+use Rattle.solid_polygon.specs.file_part.specs.Part.{Part, part_of}
 use Rattle.file_ok.specs.Verdict.{number, verdict_of}
 use Rattle.solid_polygon.specs.declared.polygon.Plane.{Plane}
 use Rattle.solid_polygon.specs.Polygon.{area_of_word}

@@ -2,7 +2,7 @@
 use Rattle.std.specs.Prelude.{◌≡◌, List, ℕ, ◌+◌, ◌*◌, ◌≤◌, ◌<◌, length, get_or, Float}
 use Rattle.std.specs.Float.{nan}
 use Rattle.math.specs.Vector.{vec}
-use Rattle.file_part.specs.Part.{Part}
+use Rattle.solid_polygon.specs.file_part.specs.Part.{Part}
 use Rattle.solid_polygon.specs.declared.polygon.Plane.{Plane}
 use Rattle.solid_faces.specs.Faces.{faces_of, face_number, first_polygon, next_polygon, polygon_area, polygon_plane, face_area}
 

@@ -2,3 +2,6 @@
 pub mod Faces
 pub mod Kept
 pub mod Work
+-- Passed on to the crates above.
+pub use Rattle.file_ok
+pub use Rattle.solid_polygon

@@ -1,8 +1,8 @@
 -- What private functions leave on the way; a reader may pass over it. Definitions only.
 use Rattle.std.specs.Prelude.{◌≡◌, true, List, ℕ, ◌+◌, ◌*◌, ◌<◌, ◌/◌, ◌%◌, ◌≤◌, length, get_or, set, Float}
 use Rattle.std.specs.Float.{nan}
-use Rattle.file_part.specs.declared.read.FaceId.{FaceId}
-use Rattle.file_part.specs.Part.{Part}
+use Rattle.solid_polygon.specs.file_part.specs.declared.read.FaceId.{FaceId}
+use Rattle.solid_polygon.specs.file_part.specs.Part.{Part}
 use Rattle.solid_polygon.specs.declared.polygon.Plane.{Plane}
 use Rattle.solid_keys.specs.Work.{Heads, Next}
 use Rattle.solid_faces.specs.Faces.{is_new, face_count, face_area_to, first_polygon}

@@ -2,13 +2,15 @@
 ghost use Rattle.std.specs.Prelude.{◌≡◌, ◌+◌, ◌*◌, ◌≤◌, ◌<◌, length, get_or, set};
 ghost use Rattle.std.specs.Float.{nan, binary64};
 ghost use Rattle.std.specs.Float.Ieee.{add};
-ghost use Rattle.file_part.specs.Layout.{polygon_count_of};
-ghost use Rattle.file_part.specs.Part.{part_of};
+ghost use Rattle.solid_polygon.specs.file_part.specs.Layout.{polygon_count_of};
+ghost use Rattle.solid_polygon.specs.file_part.specs.Part.{part_of};
 ghost use Rattle.solid_faces.specs.Faces.{Checked};
 ghost use Rattle.solid_faces.specs.Kept.{KeptAreas, KeptPlanes};
 ghost use Rattle.solid_faces.specs.Work.{put_plane, plane_cells};
 
-use file_part::read::{entry_at, first_vertex, polygon_count, run_length, vertex_count};
+use solid_polygon::file_part::read::{
+    entry_at, first_vertex, polygon_count, run_length, vertex_count,
+};
 use solid_polygon::polygon::{Plane, poly_area};
 
 // The area of each polygon.

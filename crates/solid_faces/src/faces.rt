@@ -1,13 +1,13 @@
 // The faces of a part, in the order of their first polygons (dfm.rs's `Part::new`).
 ghost use Rattle.std.specs.Prelude.{◌≡◌, cond, ◌+◌, ◌<◌, eqb, leb, length, set};
-ghost use Rattle.file_part.specs.Layout.{polygon_count_of};
-ghost use Rattle.file_part.specs.Part.{part_of};
+ghost use Rattle.solid_polygon.specs.file_part.specs.Layout.{polygon_count_of};
+ghost use Rattle.solid_polygon.specs.file_part.specs.Part.{part_of};
 ghost use Rattle.file_ok.specs.Work.{Readable};
 ghost use Rattle.solid_faces.specs.Faces.{same_face, faces_of, face_number, Checked};
 ghost use Rattle.solid_faces.specs.Kept.{Faces};
 ghost use Rattle.solid_faces.specs.Work.{face_cells_of, id_slot, Table};
 
-use file_part::read::{FaceId, entry_at, face_id, polygon_count, vertex_count};
+use solid_polygon::file_part::read::{FaceId, entry_at, face_id, polygon_count, vertex_count};
 
 // More faces turn a part back (refusal 9).
 const MOST: usize = 1024;

@@ -1,13 +1,15 @@
 // Refusals 8 and 9 of a part file, after those of the crate below.
 ghost use Rattle.std.specs.Prelude.{◌≡◌};
-ghost use Rattle.file_part.specs.Part.{part_of};
+ghost use Rattle.solid_polygon.specs.file_part.specs.Part.{part_of};
 ghost use Rattle.file_ok.specs.Work.{Readable};
 ghost use Rattle.solid_faces.specs.Faces.{some_flat, body_verdict};
 
 use crate::faces::few_faces;
 use file_ok::verdict::Verdict;
-use file_part::read::{entry_at, first_vertex, polygon_count, run_length, vertex_count};
 use refusal::ACCEPTED;
+use solid_polygon::file_part::read::{
+    entry_at, first_vertex, polygon_count, run_length, vertex_count,
+};
 use solid_polygon::polygon::is_flat;
 
 // Whether `Polygon::new` would refuse some polygon.

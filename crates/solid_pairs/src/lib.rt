@@ -1,4 +1,6 @@
 // Items between two faces each, by pairs of faces: the pair of two faces, the lower id first, and the key by which items are sorted.
+#![tactic(auto)]
+
 ghost use Rattle.std.specs.Prelude.{◌≡◌, ◌+◌, ◌*◌, ◌≤◌, ◌<◌, length};
 ghost use Rattle.list_groups.specs.Work.{WholeIs};
 ghost use Rattle.file_part.specs.Part.{part_of};

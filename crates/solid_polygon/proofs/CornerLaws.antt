@@ -17,11 +17,11 @@ use Rattle.num_float.proofs.Tests.{holds}
 use Rattle.num_float.proofs.Order.{le_trans, le_not_lt}
 use Rattle.num_root.specs.Root.{root}
 use Rattle.num_norm.proofs.RootOrder.{root_mono}
-use Rattle.math.specs.declared.Vec3.{Vec3}
-use Rattle.math.specs.Vector.{zero_vec, plus, minus, cross_of, length_sq_of, length_of}
-use Rattle.math.specs.Vector as vector
-use Rattle.math.specs.Size.{VecWithin}
-use Rattle.file_field.specs.Field.{vec_at_of}
+use Rattle.file_part.specs.math.specs.declared.Vec3.{Vec3}
+use Rattle.file_part.specs.math.specs.Vector.{zero_vec, plus, minus, cross_of, length_sq_of, length_of}
+use Rattle.file_part.specs.math.specs.Vector as vector
+use Rattle.file_part.specs.math.specs.Size.{VecWithin}
+use Rattle.file_part.specs.file_field.specs.Field.{vec_at_of}
 use Rattle.solid_polygon.specs.Polygon.{half, after, newell_step, newell_to, newell_of, corners_to, triangle_area, area_to, area_of_word}
 use Rattle.solid_polygon.specs.Plane.{e_14, is_flat}
 use Rattle.solid_polygon.specs.Work.{corner_at, Corners}

@@ -2,3 +2,5 @@
 pub mod Polygon
 pub mod Plane
 pub mod Work
+-- Passed on to the crates above.
+pub use Rattle.file_part

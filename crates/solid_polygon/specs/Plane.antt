@@ -2,8 +2,8 @@
 use Rattle.std.specs.Prelude.{Bool, ℕ, Float}
 use Rattle.std.specs.Float.{binary64}
 use Rattle.std.specs.Float.Ieee.{lt, of_bits}
-use Rattle.math.specs.declared.Vec3.{Vec3}
-use Rattle.math.specs.Vector.{over, dot_of, length_of}
+use Rattle.file_part.specs.math.specs.declared.Vec3.{Vec3}
+use Rattle.file_part.specs.math.specs.Vector.{over, dot_of, length_of}
 use Rattle.solid_polygon.specs.declared.polygon.Plane.{Plane}
 use Rattle.solid_polygon.specs.Polygon.{newell_of, plane_centroid}
 

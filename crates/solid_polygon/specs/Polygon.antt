@@ -2,9 +2,9 @@
 use Rattle.std.specs.Prelude.{cond, ℕ, zero, suc, ◌+◌, ◌-◌, eqb, pos, Float}
 use Rattle.std.specs.Float.{binary64}
 use Rattle.std.specs.Float.Ieee.{add, sub, mul, div, of_bits, of_int}
-use Rattle.math.specs.declared.Vec3.{Vec3}
-use Rattle.math.specs.Vector.{vec, one, zero_vec, plus, minus, times, over, cross_of, length_of}
-use Rattle.math.specs.Vector as vector
+use Rattle.file_part.specs.math.specs.declared.Vec3.{Vec3}
+use Rattle.file_part.specs.math.specs.Vector.{vec, one, zero_vec, plus, minus, times, over, cross_of, length_of}
+use Rattle.file_part.specs.math.specs.Vector as vector
 
 -- the corner after corner k of n; after the last comes the first
 unfoldable pub after : ℕ → ℕ → ℕ

@@ -1,8 +1,8 @@
 -- What private functions leave on the way; a reader may pass over it. Definitions only.
 use Rattle.std.specs.Prelude.{List, ℕ, ◌+◌, ◌*◌, ◌≤◌, ◌<◌, length}
-use Rattle.math.specs.Size.{VecWithin}
-use Rattle.math.specs.declared.Vec3.{Vec3}
-use Rattle.file_field.specs.Field.{vec_at_of}
+use Rattle.file_part.specs.math.specs.Size.{VecWithin}
+use Rattle.file_part.specs.math.specs.declared.Vec3.{Vec3}
+use Rattle.file_part.specs.file_field.specs.Field.{vec_at_of}
 
 -- ---- beside Polygon.antt
 -- the corners of the run that begins at vertex `first`

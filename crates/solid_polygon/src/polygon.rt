@@ -5,7 +5,7 @@ ghost use Rattle.solid_polygon.specs.Work.{corner_at, Corners};
 ghost use Rattle.solid_polygon.specs.Plane.{is_flat, plane_of};
 
 use file_part::corner::corner;
-use math::Vec3;
+use file_part::math::Vec3;
 
 // normal . p = w for the points p of the plane.
 #[derive(Clone, Copy)]

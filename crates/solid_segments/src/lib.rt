@@ -1,4 +1,6 @@
 // The shared segments of a part.
+#![tactic(auto)]
+
 pub mod key;
 mod pack;
 pub mod shared;

@@ -1,4 +1,6 @@
 // The weighted median of all thickness readings of a part: what the sheet metal rule first takes for its thickness.
+#![tactic(auto)]
+
 ghost use Rattle.std.specs.Prelude.{◌≡◌, ◌+◌, ◌≤◌, length};
 ghost use Rattle.list_laws.specs.Region.{Outside};
 ghost use Rattle.file_part.specs.Part.{part_of};

@@ -18,8 +18,8 @@ use Rattle.scratch.specs.declared.regions.Regions.{Regions}
 use Rattle.scratch.specs.Standing.{Standing}
 use Rattle.scratch.proofs.StandingLaws.{placed_polygons}
 use Rattle.scratch.proofs.WordsLaws.{face_at_lem}
-use Rattle.solid_ranks.specs.Kept.{Ranked, SortsOnly}
-use Rattle.solid_ranks.proofs.KeptLaws.{sorts_only, only_standing, ranked_kept}
+use Rattle.solid_pairs.specs.solid_ranks.specs.Kept.{Ranked, SortsOnly}
+use Rattle.solid_pairs.specs.solid_ranks.proofs.KeptLaws.{sorts_only, only_standing, ranked_kept}
 use Rattle.solid_pairs.specs.declared.FacePair.{FacePair}
 use Rattle.solid_pairs.specs.Pairs.{lower, higher}
 use Rattle.solid_pairs.specs.Work.{PairIs, item_key, PairsSorted}

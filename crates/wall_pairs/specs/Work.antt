@@ -7,7 +7,7 @@ use Rattle.file_part.specs.Part.{Part, part_of}
 use Rattle.solid_faces.specs.Faces.{faces_of}
 use Rattle.scratch.specs.declared.regions.Regions.{Regions}
 use Rattle.scratch.specs.Standing.{Standing, Placed, Words}
-use Rattle.solid_ranks.specs.Kept.{Ranked}
+use Rattle.solid_pairs.specs.solid_ranks.specs.Kept.{Ranked}
 use Rattle.solid_pairs.specs.Pairs.{lower, higher}
 use Rattle.solid_pairs.specs.Work.{PairsSorted, PairsTo}
 use Rattle.wall_samples.specs.Samples.{readings_of}

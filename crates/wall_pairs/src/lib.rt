@@ -1,11 +1,13 @@
 // The thickness readings by their pairs of faces, pairs by rising ids: they are sorted once, and the groups are walked.
+#![tactic(auto)]
+
 ghost use Rattle.std.specs.Prelude.{◌≡◌, ◌≤◌, ◌<◌, length, get_or};
 ghost use Rattle.list_laws.specs.Region.{part};
 ghost use Rattle.list_groups.specs.Work.{KeysPut};
 ghost use Rattle.file_part.specs.Part.{part_of};
 ghost use Rattle.solid_faces.specs.Faces.{faces_of};
 ghost use Rattle.scratch.specs.Standing.{Standing};
-ghost use Rattle.solid_ranks.specs.Kept.{Ranked};
+ghost use Rattle.solid_pairs.specs.solid_ranks.specs.Kept.{Ranked};
 ghost use Rattle.solid_pairs.specs.Work.{PairIs, item_key};
 ghost use Rattle.wall_samples.specs.Samples.{readings_of};
 ghost use Rattle.wall_samples.specs.Stored.{reading, Readings};

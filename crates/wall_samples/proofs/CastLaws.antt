@@ -18,10 +18,10 @@ use Rattle.solid_faces.specs.Faces.{polygon_corner, polygon_plane}
 use Rattle.solid_faces.specs.Kept.{plane_at_of}
 use Rattle.scratch.specs.declared.regions.Regions.{Regions}
 use Rattle.scratch.specs.Standing.{Standing}
-use Rattle.wall_ray.specs.declared.strike.Ray.{Ray}
-use Rattle.wall_ray.specs.declared.strike.Hit.{Hit}
-use Rattle.wall_ray.specs.declared.strike.Hit.TheVariants.{At, Nothing}
-use Rattle.wall_ray.specs.Nearest.{hit_of, Nearest, Answer}
+use Rattle.wall_tree.specs.wall_ray.specs.declared.strike.Ray.{Ray}
+use Rattle.wall_tree.specs.wall_ray.specs.declared.strike.Hit.{Hit}
+use Rattle.wall_tree.specs.wall_ray.specs.declared.strike.Hit.TheVariants.{At, Nothing}
+use Rattle.wall_tree.specs.wall_ray.specs.Nearest.{hit_of, Nearest, Answer}
 use Rattle.wall_samples.specs.Samples.{e_6, polygon_centroid, inward, ray_of, faces_back, reading_of, readings_from}
 use Rattle.wall_samples.specs.Work.{HitBelow, back_hit, taken}
 

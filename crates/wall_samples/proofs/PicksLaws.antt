@@ -12,9 +12,9 @@ use lib.ListN.{length, get_or, length-append}
 use borrow.Author.Tests.{ltb-false, lt-ltb, le-ltb}
 use Rattle.num_float.proofs.Tests.{lt_or_ge}
 use Rattle.file_part.specs.Part.{Part}
-use Rattle.wall_ray.specs.declared.strike.Hit.{Hit}
-use Rattle.wall_ray.specs.declared.strike.Hit.TheVariants.{At, Nothing}
-use Rattle.wall_ray.specs.Nearest.{hit_of}
+use Rattle.wall_tree.specs.wall_ray.specs.declared.strike.Hit.{Hit}
+use Rattle.wall_tree.specs.wall_ray.specs.declared.strike.Hit.TheVariants.{At, Nothing}
+use Rattle.wall_tree.specs.wall_ray.specs.Nearest.{hit_of}
 use Rattle.wall_starts.specs.Starts.{wanted, face_polygons, ordered_polygons, step_of}
 use Rattle.wall_starts.proofs.ShareLaws.{step_least}
 use Rattle.wall_starts.proofs.OrderLaws.{ordered_length, lengths_more, lengths_within}

@@ -22,10 +22,10 @@ use Rattle.scratch.specs.Regions.{Laid}
 use Rattle.scratch.specs.Standing.{Standing}
 use Rattle.scratch.proofs.StandingLaws.{placed_polygons}
 use Rattle.scratch.proofs.WordsLaws.{face_at_lem}
-use Rattle.wall_ray.specs.declared.strike.Hit.{Hit}
-use Rattle.wall_ray.specs.declared.strike.Hit.TheVariants.{At, Nothing}
-use Rattle.wall_ray.specs.Nearest.{hit_of}
-use Rattle.wall_ray.proofs.NearestLaws.{hit_struck}
+use Rattle.wall_tree.specs.wall_ray.specs.declared.strike.Hit.{Hit}
+use Rattle.wall_tree.specs.wall_ray.specs.declared.strike.Hit.TheVariants.{At, Nothing}
+use Rattle.wall_tree.specs.wall_ray.specs.Nearest.{hit_of}
+use Rattle.wall_tree.specs.wall_ray.proofs.NearestLaws.{hit_struck}
 use Rattle.wall_starts.specs.Starts.{total_area_of, wanted, ordered_polygons, step_of}
 use Rattle.wall_starts.proofs.OrderLaws.{ordered_each, lengths_within}
 use Rattle.wall_samples.specs.declared.sample.Sample.{Sample}

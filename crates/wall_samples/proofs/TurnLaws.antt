@@ -14,9 +14,9 @@ use Rattle.list_laws.proofs.Regions.{part_length, part_place}
 use Rattle.file_part.specs.Part.{part_of}
 use Rattle.scratch.specs.declared.regions.Regions.{Regions}
 use Rattle.scratch.specs.Standing.{Standing}
-use Rattle.wall_ray.specs.declared.strike.Hit.{Hit}
-use Rattle.wall_ray.specs.declared.strike.Hit.TheVariants.{At, Nothing}
-use Rattle.wall_ray.specs.Nearest.{hit_of}
+use Rattle.wall_tree.specs.wall_ray.specs.declared.strike.Hit.{Hit}
+use Rattle.wall_tree.specs.wall_ray.specs.declared.strike.Hit.TheVariants.{At, Nothing}
+use Rattle.wall_tree.specs.wall_ray.specs.Nearest.{hit_of}
 use Rattle.wall_starts.specs.Starts.{step_of}
 use Rattle.wall_samples.specs.declared.cast.Reading.{Reading}
 use Rattle.wall_samples.specs.Samples.{e_6, ray_of, readings_from, picks_to}

@@ -8,10 +8,10 @@ use Rattle.math.specs.Vector as vector
 use Rattle.file_part.specs.Part.{Part}
 use Rattle.solid_polygon.specs.Polygon.{half, centroid_of}
 use Rattle.solid_faces.specs.Faces.{polygon_corner, polygon_plane, polygon_area, face_number, faces_of}
-use Rattle.wall_ray.specs.declared.strike.Ray.{Ray}
-use Rattle.wall_ray.specs.declared.strike.Hit.{Hit}
-use Rattle.wall_ray.specs.declared.strike.Hit.TheVariants.{At, Nothing}
-use Rattle.wall_ray.specs.Nearest.{hit_of}
+use Rattle.wall_tree.specs.wall_ray.specs.declared.strike.Ray.{Ray}
+use Rattle.wall_tree.specs.wall_ray.specs.declared.strike.Hit.{Hit}
+use Rattle.wall_tree.specs.wall_ray.specs.declared.strike.Hit.TheVariants.{At, Nothing}
+use Rattle.wall_tree.specs.wall_ray.specs.Nearest.{hit_of}
 use Rattle.wall_starts.specs.Starts.{total_area_of, wanted, ordered_polygons, step_of}
 use Rattle.wall_samples.specs.declared.sample.Sample.{Sample}
 use Rattle.wall_samples.specs.declared.cast.Reading.{Reading}

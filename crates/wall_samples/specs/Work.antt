@@ -6,8 +6,8 @@ use Rattle.list_laws.specs.Region.{part, Outside}
 use Rattle.file_part.specs.Part.{Part, part_of}
 use Rattle.scratch.specs.declared.regions.Regions.{Regions}
 use Rattle.scratch.specs.Standing.{Standing}
-use Rattle.wall_ray.specs.declared.strike.Hit.{Hit}
-use Rattle.wall_ray.specs.declared.strike.Hit.TheVariants.{At, Nothing}
+use Rattle.wall_tree.specs.wall_ray.specs.declared.strike.Hit.{Hit}
+use Rattle.wall_tree.specs.wall_ray.specs.declared.strike.Hit.TheVariants.{At, Nothing}
 use Rattle.wall_starts.specs.Work.{KeptFalling}
 use Rattle.wall_samples.specs.declared.cast.Reading.{Reading}
 use Rattle.wall_samples.specs.Samples.{e_6, faces_back}

@@ -8,7 +8,7 @@ ghost use Rattle.solid_polygon.specs.Polygon.{half};
 ghost use Rattle.solid_faces.specs.Faces.{Checked};
 ghost use Rattle.solid_faces.specs.Kept.{plane_at_of};
 ghost use Rattle.scratch.specs.Standing.{Standing};
-ghost use Rattle.wall_ray.specs.Nearest.{hit_of};
+ghost use Rattle.wall_tree.specs.wall_ray.specs.Nearest.{hit_of};
 ghost use Rattle.wall_samples.specs.Samples.{polygon_centroid, ray_of};
 ghost use Rattle.wall_samples.specs.Work.{back_hit, HitBelow};
 
@@ -16,8 +16,8 @@ use file_part::read::{entry_at, first_vertex, run_length};
 use math::Vec3;
 use scratch::regions::Regions;
 use solid_polygon::polygon::centroid;
-use wall_ray::strike::{Hit, Ray, plane_at};
 use wall_tree::raycast::raycast;
+use wall_tree::wall_ray::strike::{Hit, Ray, plane_at};
 
 // The polygon that a ray starts from, the polygon that it hits, and how thick the part is between them.
 #[derive(Clone, Copy)]

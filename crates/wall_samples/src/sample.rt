@@ -9,7 +9,7 @@ use crate::cast::centroid_of;
 use list_cells::wide;
 use math::Vec3;
 use scratch::regions::Regions;
-use wall_ray::strike::plane_at;
+use wall_tree::wall_ray::strike::plane_at;
 
 // Faces are told by their numbers. The ray starts at `point`, the centroid of a polygon of `face` with this area and normal.
 #[derive(Clone, Copy)]

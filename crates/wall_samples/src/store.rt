@@ -14,8 +14,8 @@ ghost use Rattle.wall_samples.specs.Work.{put_polygons, put_measures, Added, Rea
 use crate::cast::{Reading, reading_from};
 use list_cells::wide;
 use scratch::regions::Regions;
-use wall_ray::strike::Hit;
 use wall_starts::{face_order, put_falling, share, total_area};
+use wall_tree::wall_ray::strike::Hit;
 
 // The turn of a face: how many rays it gets, and how many readings the faces before it have.
 #[derive(Clone, Copy)]

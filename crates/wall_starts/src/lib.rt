@@ -1,4 +1,6 @@
 // Which polygons of a face the rays of `thickness_samples` start from: how many rays a face gets, and the order of its polygons.
+#![tactic(auto)]
+
 ghost use Rattle.std.specs.Prelude.{◌≡◌, ◌+◌, ◌≤◌, length};
 ghost use Rattle.wall_starts.specs.Starts as starts;
 ghost use Rattle.wall_starts.specs.Work.{Total, Negated, Room, Gathered, Ordered};

@@ -1,0 +1,13 @@
+-- `num_text::number::hex_digit` meets its contract: two cases.
+use borrow.Author.Rules.{rules}
+use borrow.Author.Tests.{lt-ltb, le-ltb}
+use Rattle.num_text.specs.Number.{hex_digit}
+use Rattle.num_text.proofs.number.hex_digit.Goals as goal
+
+pub returns-then-d-lt10 : goal.returns-then-d-lt10
+unfolding hex_digit
+returns-then-d-lt10 c = rw (lt-ltb _ 10 c.if-d-lt10.true)
+
+pub returns : goal.returns
+unfolding hex_digit
+returns c = rw (le-ltb _ 10 c.if-d-lt10.false)

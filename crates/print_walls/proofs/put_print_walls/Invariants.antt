@@ -1,0 +1,13 @@
+-- `print_walls::put_print_walls` meets its contract: the faults of the walls that are passed are put.
+use borrow.Author.Rules.{rules}
+use Prim.Native.Nat.{◌+◌, ◌-◌, ◌≤◌}
+use native.Mathlib.Omega.{arith}
+use Rattle.file_part.specs.Part.{part_of}
+use Rattle.print_walls.proofs.WalkLaws.{WallsMet, met_none, wall_room, met_next, met_all}
+use Rattle.print_walls.proofs.put_print_walls.Given as goal
+
+abbrev pub invariant-loop-i : goal.invariant-loop-i
+invariant-loop-i l = (l.i ≤ l.m) × WallsMet (part_of l.file) l.i l.initial.k l.initial.cells l.cells l.initial.numbers l.numbers l.k × (l.k ≤ l.initial.k + l.i)
+
+abbrev pub decreases-loop-i : goal.decreases-loop-i
+decreases-loop-i l = l.m - l.i

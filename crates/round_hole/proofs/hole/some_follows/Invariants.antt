@@ -1,0 +1,12 @@
+-- `round_hole::hole::some_follows` meets its contract.
+use Prim.Native.Nat.{◌-◌, ◌*◌, ◌≤◌}
+use native.Mathlib.Omega.{arith}
+use borrow.Author.Rules.{rules}
+use Rattle.round_hole.proofs.RoundLaws.{followed_near, followed_all}
+use Rattle.round_hole.proofs.hole.some_follows.Given as goal
+
+abbrev pub invariant-loop-w : goal.invariant-loop-w
+invariant-loop-w l = 8 ≤ l.w
+
+abbrev pub decreases-loop-w : goal.decreases-loop-w
+decreases-loop-w l = l.n - l.w

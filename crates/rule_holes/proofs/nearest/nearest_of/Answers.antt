@@ -1,0 +1,58 @@
+-- `rule_holes::nearest::nearest_of` meets its contract: a tour of the hole's neighbours.
+use Prim.Native.Nat.{◌-◌}
+use Rattle.file_part.specs.Part.{part_of}
+use Rattle.rule_holes.specs.Nearest.{nothing, gaps_from}
+use Rattle.rule_holes.proofs.NearestLaws.{NearestTo, nothing_there, nearest_start, nearest_more, nearest_end, nearest_of_end}
+use native.Mathlib.Omega.{arith}
+use Rattle.rule_holes.proofs.nearest.nearest_of.Goals as goal
+
+pub face_places-places-requires : goal.face_places-places-requires
+face_places-places-requires c =
+    let g = c.requires in
+    record {
+      fact_1 = g.edges_ordered_1;
+      fact_2 = g.edges_ordered_2;
+      fact_3 = omega (arith, g.edges_ordered_3, g.edges_ordered_2.faces);
+    }
+
+pub loop-i-init : goal.loop-i-init
+unfolding nothing
+loop-i-init c =
+    let g = c.requires in
+    nearest_start _ _ _ _ g.edges_ordered_1 _ _ _ _ c.face_places-places.ensures (nothing_there _ _ g.edges_ordered_3)
+
+pub next_group-group-requires : goal.next_group-group-requires
+next_group-group-requires c =
+    let g = c.requires in
+    record {
+      edges_ordered_1 = g.edges_ordered_1;
+      edges_ordered_2 = g.edges_ordered_3;
+      rest_places_1 = c.loop-i.invariant.left;
+      rest_places_2 = c.loop-i-test.true;
+    }
+
+pub with_neighbour-nearest-requires : goal.with_neighbour-nearest-requires
+with_neighbour-nearest-requires c =
+    let g = c.requires in
+    record {
+      edges_ordered_1 = g.edges_ordered_1;
+      edges_ordered_2 = g.edges_ordered_2;
+      edges_ordered_3 = c.next_group-group.ensures.group.other_below;
+      plates_1 = g.plates;
+      plates_2 = c.loop-i.invariant.there;
+    }
+
+pub loop-i-smaller : goal.loop-i-smaller
+loop-i-smaller c =
+    omega (arith, c.next_group-group.ensures.from, c.next_group-group.ensures.group.some, c.loop-i-test.true)
+
+pub loop-i-preserved : goal.loop-i-preserved
+loop-i-preserved c = nearest_more _ _ _ _ c.requires.edges_ordered_1 _ c.loop-i.invariant _ _ c.next_group-group.ensures c.with_neighbour-nearest.ensures.fact_1 c.with_neighbour-nearest.ensures.fact_2
+
+pub returns : goal.returns
+returns c =
+    let g = c.requires in
+    record {
+      fact_1 = nearest_of_end _ _ _ (nearest_end _ _ _ _ g.edges_ordered_1 _ c.loop-i.invariant g.edges_ordered_3 c.loop-i-test.false);
+      fact_2 = c.loop-i.invariant.there;
+    }

@@ -1,0 +1,6 @@
+-- `wall_ray::attempt::is_next` meets its contract.
+use borrow.Author.Rules.{rules}
+use Rattle.wall_ray.proofs.attempt.is_next.Goals as goal
+
+pub returns : goal.returns
+returns c = rw (c.is_parallel.ensures, c.comes_first.ensures)

@@ -1,0 +1,6 @@
+-- `wall_ray::strike::is_reached` meets its contract.
+use borrow.Author.Rules.{rules}
+use Rattle.wall_ray.proofs.strike.is_reached.Goals as goal
+
+pub returns : goal.returns
+returns c = rw (c.is_parallel.ensures, c.is_improved.ensures)

@@ -1,0 +1,13 @@
+-- `wall_starts::gather` meets its contract.
+use borrow.Author.Rules.{rules}
+use Prim.Native.Nat.{◌-◌}
+use lib.ListN.{length-set}
+use Rattle.wall_starts.proofs.KeptLaws.{GatheredTo, gathered_none, link_rises, gathered_more, gathered_all}
+use native.Mathlib.Omega.{arith}
+use Rattle.wall_starts.proofs.gather.Given as goal
+
+abbrev pub invariant-loop-q : goal.invariant-loop-q
+invariant-loop-q l = GatheredTo l.initial.words l.words l.chain l.order l.p l.first l.q l.n
+
+abbrev pub decreases-loop-q : goal.decreases-loop-q
+decreases-loop-q l = l.p - l.q
