@@ -1,7 +1,7 @@
 # To be sourced: `with_progress LOG COMMAND..` runs a command that proves crates, its output in a log, and on a terminal tells how far it is.
 tell_progress() { # LOG
     while sleep 1 && kill -0 $$ 2>/dev/null; do
-        printf '\r%d crates proved, %d edits refused ' "$(grep -c '^rt: [a-z0-9_]* proved' "$1")" "$(grep -c '^rt: must-fail .*: refused' "$1")" >&2
+        printf '\r%d crates proved ' "$(grep -c -e '^logic=proved' -e '^rt: [a-z0-9_]* is kept' "$1")" >&2
     done
 }
 

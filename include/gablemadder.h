@@ -1,5 +1,5 @@
 /*
- * Gablemadder: the check of a part before it is made. What C and C++ call of the static library libexports.a (`rt staticlib exports`).
+ * Gablemadder: the check of a part before it is made. What C and C++ call of the static library libexports.a (`command/library` builds it).
  *
  * Every call ends, whatever it is passed, and answers with a number: 0, or the number of a refusal. What each buffer holds then is said at
  * each function, for refused calls too; the contracts in crates/exports/src say the same and are proved.

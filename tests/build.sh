@@ -7,7 +7,13 @@ libraries() {
     link=()
     local name
     for name in "$@"; do
-        rt staticlib "$name" >target/tests/staticlib.log 2>&1 || { tail -n 20 target/tests/staticlib.log; return 1; }
+        case " ${libraries_built-} " in
+            *" $name "*) ;;
+            *)
+                command/library "$name" >target/tests/staticlib.log 2>&1 || { tail -n 20 target/tests/staticlib.log; return 1; }
+                libraries_built+=" $name"
+                ;;
+        esac
         link+=(-C "link-arg=target/staticlib/lib$name.a")
     done
 }

@@ -12,20 +12,26 @@ TABLE = ('num_sine', 'Table')
 BEGIN = '<!-- begin: tests/meaning.py -->'
 END = '<!-- end -->'
 
-USE = re.compile(r'^use (Rattle·\w+(?:·specs)?)\.specs\.([\w.\-]+?)(?:\.\{([^}]*)\}| as ([\w\-]+))$')
+# a crate that is reached through others stands last: Rattle.solid_polygon.specs.file_part.specs.Part
+USE = re.compile(r'^use Rattle\.(?:\w+\.specs\.)*(\w+)\.specs\.([\w.]+?)(?:\.\{([^}]*)\}| as (\w+))$')
 HEAD = re.compile(r'^(?:abbrev |unfoldable |opaque )?(?:pub )?(?:record |data )?([^\s(]+)(?= )')
-WORD = re.compile(r"[^\s(){}\[\];.,λ]+(?:\.[^\s(){}\[\];.,]+)?")
+WORD = re.compile(r"[^\s(){}\[\];.,λ]+(?:\.[^\s(){}\[\];.,]+)*")
+# a field of what stands in parentheses
+FIELDS = re.compile(r"(?<=\))(?:\.[^\s(){}\[\];.,]+)+")
 
 
 def crates():
     """The crates in the order of crates.txt, lowest first."""
     with open(os.path.join(ROOT, 'crates.txt')) as f:
-        return [line.split(':')[0] for line in f if ':' in line and not line.startswith('#')]
+        return [line.split(':')[0].split()[0] for line in f if ':' in line and not line.startswith('#')]
+
+
+OURS = set(crates())
 
 
 def type_of(module):
     """The struct or enum of src/ that a module declares, or whose variants it has."""
-    return module.removesuffix('.the-variants').split('.')[-1]
+    return module.removesuffix('.TheVariants').split('.')[-1]
 
 
 class Module:
@@ -71,8 +77,9 @@ class Module:
         found = USE.match(line)
         if not found:
             return
-        library, module, listed, alias = found.groups()
-        crate = library[len('Rattle·'):].removesuffix('·specs')
+        crate, module, listed, alias = found.groups()
+        if crate not in OURS:
+            return
         if alias:
             self.aliases[alias] = (crate, module)
             return
@@ -87,8 +94,10 @@ class Module:
     def reached(self, name):
         """What the definition `name` names: definitions and types."""
         text = '\n'.join(re.sub(r'--.*', '', line) for line in self.defs[name])
-        for word in WORD.findall(text):
+        for word in WORD.findall(FIELDS.sub('', text)):
+            # what a definition's or a bound name's field is called is no name of a definition
             head, _, tail = word.partition('.')
+            tail = tail.split('.')[0]
             if tail and head in self.aliases:
                 crate, module = self.aliases[head]
                 # a variant of an enum of src/, or a definition
@@ -152,7 +161,8 @@ TYPED = re.compile(r'^(?:abbrev |unfoldable |opaque )?(?:pub )?\S+ : ')
 
 
 def bare(lines):
-    return sum(1 for line in lines if not line.lstrip().startswith(('--', '//')))
+    """Lines without comments, and without the derives of a struct or an enum."""
+    return sum(1 for line in lines if not line.lstrip().startswith(('--', '//', '#[derive(')))
 
 
 def typed(lines):

@@ -60,7 +60,7 @@ def specs(entries):
 
 def entries_of(text):
     """The entries in a source file: the numbers between the table's name with `=` and the bracket that ends the table."""
-    start = re.search(r"(SINE: \[u64; \d+\] = \[|sineTable =)", text).end()
+    start = re.search(r"(SINE: \[u64; \d+\] = \[|sine_table =)", text).end()
     end = text.index("]", start)
     return [int(n) for n in re.findall(r"\d+", text[start:end])]
 

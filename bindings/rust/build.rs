@@ -9,7 +9,7 @@ fn main() {
     let folder = named.unwrap_or_else(|| Path::new(env!("CARGO_MANIFEST_DIR")).join("../../target/staticlib"));
     let Ok(library) = folder.join("libexports.a").canonicalize() else {
         eprintln!("There is no libexports.a in {}.", folder.display());
-        eprintln!("Build it with `rt staticlib exports`, or set GABLEMADDER_LIB to the folder that holds it.");
+        eprintln!("Build it with `command/library` of the repository, or set GABLEMADDER_LIB to the folder that holds it.");
         exit(1);
     };
     println!("cargo:rerun-if-changed={}", library.display());

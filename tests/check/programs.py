@@ -1,7 +1,7 @@
 #!/usr/bin/env python3
 """The program dfm_main beside the patched Rust: a part file on standard input, the report, `refused N` or `too long` on standard output.
 
-usage: tests/check/programs.py [--quick] [PROGRAM]      target/bin/dfm_main if none is named
+usage: tests/check/programs.py [--quick] [PROGRAM]      crates/dfm_main/out/dfm_main if none is named
 
 On files of every length about its limits, document 01's examples, those of docs/DIFFERENCES.md, generated ones, and a part of more faults than it
 lends rows for. The file comes whole or in pieces. `corner` gives one answer in 1,000 runs.
@@ -22,7 +22,7 @@ from differences import OUT, frames, framed, run
 from fixed_list import LENT, LONGEST
 from parts import CYLINDER, SHEET, box, job, part
 
-PROGRAM = os.path.join(HERE, "..", "..", "target", "bin", "dfm_main")
+PROGRAM = os.path.join(HERE, "..", "..", "crates", "dfm_main", "out", "dfm_main")
 GENERATED, SEED = 3000, 21
 
 

@@ -52,10 +52,6 @@ def listed(text):
     return [item for item in (words(item) for item in text.split(",")) if item]
 
 
-def snake(name):
-    return re.sub(r"(?<!^)(?=[A-Z])", "_", name).lower()
-
-
 def camel(name):
     return "".join(word.capitalize() for word in name.split("_"))
 
@@ -90,6 +86,9 @@ def source_row(tree):
 def source_struct(tree, name):
     """The fields of a struct of the source, as the file that the exports take it from has them."""
     path = only(r"use (\w+::(?:\w+::)*)%s;" % name, tree.read("crates/exports/src/checks.rt"), "use of " + name).split("::")
+    # a crate may be named through others that use it
+    while os.path.isdir(os.path.join(ROOT, "crates", path[1])):
+        del path[0]
     folder = "crates/%s/src/" % path[0]
     text = tree.read(folder + ("/".join(path[1:-1]) or "lib") + ".rt")
     body = only(r"#\[repr\(C\)\]\s*(?:#\[[^\n]*\]\s*)*pub struct %s \{(.*?)\n\}" % name, text, "#[repr(C)] struct " + name)
@@ -103,19 +102,19 @@ def source_refusals(tree):
 
 
 def defined_refusals(tree):
-    """The same of the definitions, by the names that code has for them."""
+    """The same of the definitions, by the names that code has for them: `bad_job_of` is BAD_JOB."""
     found = re.findall(r"^-- (.*)\nabbrev pub (\w+) : ℕ\n\2 = (\d+)$", tree.read(DEFINED), re.M)
-    return {snake(name).upper(): (int(number), condition) for condition, name, number in found}
+    return {name.removesuffix("_of").upper(): (int(number), condition) for condition, name, number in found}
 
 
 def source_sizes(tree):
     """The formulas of the scratch in p and v, and the limits."""
     regions = tree.read("crates/scratch/specs/Regions.antt")
     verdict = tree.read("crates/file_ok/specs/Verdict.antt")
-    vertices, polygons = only(r"tooLarge v p = ltb (\d+) v \|\| ltb (\d+) p", verdict, "tooLarge")
+    vertices, polygons = only(r"too_large v p = ltb (\d+) v \|\| ltb (\d+) p", verdict, "too_large")
     return {
-        "WORDS": only(r"wordsNeeded p v = ([^\n]*)", regions, "wordsNeeded"),
-        "REALS": only(r"realsNeeded p v = ([^\n]*)", regions, "realsNeeded"),
+        "WORDS": only(r"words_needed p v = ([^\n]*)", regions, "words_needed"),
+        "REALS": only(r"reals_needed p v = ([^\n]*)", regions, "reals_needed"),
         "MOST_VERTICES": vertices,
         "MOST_POLYGONS": polygons,
         "MOST_ROWS": only(r"const MOST: usize = (\d+);", tree.read("crates/fault_row/src/row.rt"), "the most rows"),
@@ -229,9 +228,9 @@ CHANGES = [
     (REFUSALS, "NO_DECIMAL: u32 = 13", "NO_DECIMAL: u32 = 14"),
     (REFUSALS, "pub const BAD_LINE", "pub const OTHER_LINE"),
     (REFUSALS, "// over 1,024 faces\n", "// over 1,025 faces\n"),
-    (DEFINED, "badJob = 5", "badJob = 6"),
+    (DEFINED, "bad_job_of = 5", "bad_job_of = 6"),
     (DEFINED, "-- edition not 1\n", "-- edition not 2\n"),
-    ("crates/scratch/specs/Regions.antt", "wordsNeeded p v = 12 * p", "wordsNeeded p v = 8 * p"),
+    ("crates/scratch/specs/Regions.antt", "words_needed p v = 12 * p", "words_needed p v = 8 * p"),
     ("README.md", "| 14 | OBJ text: a line of any other form |", "| 14 | OBJ text: a line |"),
     (RUST + "ffi.rs", "rows: *mut FaultRow,", "rows: *const FaultRow,"),
     (RUST + "ffi.rs", "            job: *const u8,", "            job: *mut u8,"),
