@@ -96,9 +96,11 @@ def source_struct(tree, name):
 
 
 def source_refusals(tree):
-    """Each constant of the code: its number and the condition above it."""
-    found = re.findall(r"^// (.*)\npub const (\w+): u32 = (\d+);$", tree.read(REFUSALS), re.M)
-    return {name: (int(number), condition) for condition, name, number in found}
+    """Each case of the enum, in the header's spelling: its number and the condition above it."""
+    text = tree.read(REFUSALS)
+    conditions = {name: condition for condition, name in re.findall(r"^    // (.*)\n    (\w+),$", text, re.M)}
+    numbers = re.findall(r"^ +Refusal::(\w+) => (\d+),$", text, re.M)
+    return {re.sub(r"(?<!^)(?=[A-Z])", "_", name).upper(): (int(number), conditions[name]) for name, number in numbers}
 
 
 def defined_refusals(tree):
@@ -187,8 +189,7 @@ def differences(tree):
 
     refusals = source_refusals(tree)
     declared = {name: int(number) for name, number in re.findall(r"GABLEMADDER_(\w+) = (\d+)", header)}
-    same("header: refusals", declared, {name: number for name, (number, _) in refusals.items()})
-    del refusals["ACCEPTED"]
+    same("header: refusals", declared, {"ACCEPTED": 0, **{name: number for name, (number, _) in refusals.items()}})
     same("Numbers.antt: refusals", defined_refusals(tree), refusals)
     conditions = dict(refusals.values())
     same("README: conditions", told_conditions(tree), conditions)
@@ -203,7 +204,7 @@ def differences(tree):
     sizes, macros = source_sizes(tree), header_sizes(header)
     same("header: sizes", {name: macros.get(name) for name in sizes}, sizes)
 
-    names = dict(re.findall(r'Rule::(\w+) => put_bytes\(out, at, b"(.*?)"\)', tree.read("crates/report/src/name.rt")))
+    names = dict(re.findall(r'Rule::(\w+) => b"(.*?)"', tree.read("crates/fault_row/src/fault.rt")))
     same("report.rs: rules", dict(re.findall(r'Rule::(\w+) => "(.*?)"', report)), names)
     return found
 
@@ -225,8 +226,8 @@ CHANGES = [
     (HEADER, "(24 * (size_t)(P) + 8 * (size_t)(V) + 2048)", "(16 * (size_t)(P) + 8 * (size_t)(V) + 2048)"),
     (HEADER, "GABLEMADDER_MOST_ROWS 2048", "GABLEMADDER_MOST_ROWS 4096"),
     ("crates/exports/src/texts.rt", "    places: u32,\n    out: &mut [u8],", "    out: &mut [u8],\n    places: u32,"),
-    (REFUSALS, "NO_DECIMAL: u32 = 13", "NO_DECIMAL: u32 = 14"),
-    (REFUSALS, "pub const BAD_LINE", "pub const OTHER_LINE"),
+    (REFUSALS, "Refusal::NoDecimal => 13", "Refusal::NoDecimal => 14"),
+    (REFUSALS, "Refusal::BadLine =>", "Refusal::OtherLine =>"),
     (REFUSALS, "// over 1,024 faces\n", "// over 1,025 faces\n"),
     (DEFINED, "bad_job_of = 5", "bad_job_of = 6"),
     (DEFINED, "-- edition not 1\n", "-- edition not 2\n"),

@@ -9,11 +9,17 @@ use lib.ListN.{length, drop}
 use lib.Ieee.{Float}
 use borrow.Author.Tests.{eqb-true, eqb-false}
 use Rattle.num_float.proofs.Tests.{contrary}
-use Rattle.refusal.specs.Numbers.{too_little_scratch, too_many_faults, report_too_long}
+use Rattle.std.specs.Prelude.{⊤, Result, Ok, Err}
+use Rattle.std.specs.Result.{result_and}
+use Rattle.refusal.specs.declared.Refusal.{Refusal}
+use Rattle.refusal.specs.declared.Refusal.TheVariants.{TooManyFaults, ReportTooLong}
+use Rattle.refusal.specs.Numbers.{too_little_scratch, report_too_long}
 use Rattle.file_part.specs.Part.{part_of}
 use Rattle.solid_faces.specs.Faces.{Checked}
-use Rattle.scratch.specs.Refusal.{body_refusal_of}
-use Rattle.scratch.proofs.RefusalLaws.{put_checked}
+use Rattle.file_ok.specs.Verdict.{number}
+use Rattle.file_ok.proofs.RefusalLaws.{not_none}
+use Rattle.scratch.specs.Refusal.{body_result_of, body_refusal_of}
+use Rattle.scratch.proofs.RefusalLaws.{put_number, put_checked}
 use Rattle.wall_samples.specs.Samples.{readings_of}
 use Rattle.wall_samples.specs.Stored.{reading}
 use Rattle.wall_error.specs.Error.{ReadingFacing, ReadingNear, least_dot, precision, kept_precision}
@@ -24,75 +30,69 @@ use Rattle.fault_lines.specs.Lines.{lines_of}
 use Rattle.fault_lines.proofs.Unique.{determined}
 use Rattle.fault_lines.proofs.Found.{listed}
 use Rattle.dfm_core.specs.report.specs.Text.{report_text}
-use Rattle.dfm_core.specs.declared.answer.Answer.{Answer}
-use Rattle.dfm_core.specs.declared.answer.Answer.TheVariants.{Accepted, Refused}
 use Rattle.dfm_core.specs.Faults.{faults_of, summary_of, report_of}
 use Rattle.dfm_core.specs.Answer.{number_of, length_of, is_accepted, answer_of}
 use Rattle.dfm_core.proofs.AnswerLaws.{refusal_most}
 use Rattle.dfm.specs.Check.{Outcome}
 
 -- ---- the answer
--- an answer by its three tests, q being the refusal from 1 to 10
-unfoldable answer_by_lem : Bool → Bool → Bool → ℕ → ℕ → Answer
-answer_by_lem good few fit q n = cond good (cond few (cond fit (Accepted n) (Refused report_too_long)) (Refused too_many_faults)) (Refused q)
+-- an answer by its tests, v being the refusal from 1 to 10
+unfoldable answer_by_lem : Result ⊤ Refusal → Bool → Bool → ℕ → Result ℕ Refusal
+answer_by_lem v few fit n = result_and v (cond few (cond fit (Ok n) (Err ReportTooLong)) (Err TooManyFaults))
 
-by_number : (good few fit : Bool) (q n : ℕ) → q ≤ too_little_scratch → number_of (answer_by_lem good few fit q n) ≤ report_too_long
-unfolding answer_by_lem number_of
-by_number true true true q n h = omega arith
-by_number true true false q n h = omega arith
-by_number true false fit q n h = omega arith
-by_number false few fit q n h = omega (arith, h)
+by_number : (v : Result ⊤ Refusal) (few fit : Bool) (n : ℕ) → number v ≤ too_little_scratch → number_of (answer_by_lem v few fit n) ≤ report_too_long
+unfolding answer_by_lem number_of number
+by_number (Ok u) true true n h = omega arith
+by_number (Ok u) true false n h = omega arith
+by_number (Ok u) false fit n h = omega arith
+by_number (Err r) few fit n h = omega (arith, h)
 
-by_zero : (good few fit : Bool) (q n : ℕ) → eqb q 0 ≡ good → number_of (answer_by_lem good few fit q n) ≡ 0 → is_accepted (answer_by_lem good few fit q n) ≡ true
-unfolding answer_by_lem number_of is_accepted
-by_zero true true true q n t e = refl
-by_zero true true false q n t e = absurd (omega (arith, e))
-by_zero true false fit q n t e = absurd (omega (arith, e))
-by_zero false few fit q n t e = absurd (eqb-false q 0 t e)
-
-accepted_by : (r : Answer) (good few fit : Bool) (q n : ℕ) → r ≡ answer_by_lem good few fit q n → eqb q 0 ≡ good → number_of r ≡ 0 → is_accepted r ≡ true
-accepted_by r good few fit q n is t e = ap is_accepted is ∙ by_zero good few fit q n t (ap number_of (sym is) ∙ e)
-
-by_length : (good few fit : Bool) (q n : ℕ) → is_accepted (answer_by_lem good few fit q n) ≡ true → length_of (answer_by_lem good few fit q n) ≡ n
+by_length : (v : Result ⊤ Refusal) (few fit : Bool) (n : ℕ) → is_accepted (answer_by_lem v few fit n) ≡ true → length_of (answer_by_lem v few fit n) ≡ n
 unfolding answer_by_lem length_of is_accepted
-by_length true true true q n e = refl
-by_length true true false q n e = absurd (contrary e refl)
-by_length true false fit q n e = absurd (contrary e refl)
-by_length false few fit q n e = absurd (contrary e refl)
+by_length (Ok u) true true n e = refl
+by_length (Ok u) true false n e = absurd (contrary e refl)
+by_length (Ok u) false fit n e = absurd (contrary e refl)
+by_length (Err r) few fit n e = absurd (contrary e refl)
 
-by_good : (good few fit : Bool) (q n : ℕ) → eqb q 0 ≡ good → is_accepted (answer_by_lem good few fit q n) ≡ true → q ≡ 0
+by_good : (v : Result ⊤ Refusal) (few fit : Bool) (n : ℕ) → is_accepted (answer_by_lem v few fit n) ≡ true → v ≡ Ok tt
 unfolding answer_by_lem is_accepted
-by_good true few fit q n t e = eqb-true q 0 t
-by_good false few fit q n t e = absurd (contrary e refl)
+by_good (Ok u) few fit n e = refl
+by_good (Err r) few fit n e = absurd (contrary e refl)
 
-zero_of : (r : Answer) → is_accepted r ≡ true → number_of r ≡ 0
+zero_of : (r : Result ℕ Refusal) → is_accepted r ≡ true → number_of r ≡ 0
 unfolding number_of is_accepted
-zero_of (Accepted n) e = refl
-zero_of (Refused k) e = absurd (contrary e refl)
+zero_of (Ok n) e = refl
+zero_of (Err k) e = absurd (contrary e refl)
+
+of_zero : (r : Result ℕ Refusal) → number_of r ≡ 0 → is_accepted r ≡ true
+unfolding number_of is_accepted
+of_zero (Ok n) e = refl
+of_zero (Err k) e = absurd (not_none k e)
 
 -- the tests of `answer_of`
 answer_by : (s : List ℕ) (words reals rows room : ℕ) → answer_of s words reals rows room
-    ≡ answer_by_lem (eqb (body_refusal_of s words reals) 0) (leb (length (faults_of (part_of s))) rows) (leb (length (report_of (part_of s))) room) (body_refusal_of s words reals) (length (report_of (part_of s)))
+    ≡ answer_by_lem (body_result_of s words reals) (leb (length (faults_of (part_of s))) rows) (leb (length (report_of (part_of s))) room) (length (report_of (part_of s)))
 unfolding answer_of answer_by_lem
 answer_by s words reals rows room = refl
 
-module _ {s words words' : List ℕ} {reals reals' : List Float} {rows rows' : List FaultRow} {report report' : List ℕ} {r : Answer}
+module _ {s words words' : List ℕ} {reals reals' : List Float} {rows rows' : List FaultRow} {report report' : List ℕ} {r : Result ℕ Refusal}
     (o : Outcome s words words' reals reals' rows rows' report report' r) where
   -- the answer by its tests
-  is : r ≡ answer_by_lem (eqb (body_refusal_of s (length words) (length reals)) 0) (leb (length (faults_of (part_of s))) (min 2048 (length rows)))
-      (leb (length (report_of (part_of s))) (length report)) (body_refusal_of s (length words) (length reals)) (length (report_of (part_of s)))
+  is : r ≡ answer_by_lem (body_result_of s (length words) (length reals)) (leb (length (faults_of (part_of s))) (min 2048 (length rows)))
+      (leb (length (report_of (part_of s))) (length report)) (length (report_of (part_of s)))
   is = o.answer ∙ answer_by s (length words) (length reals) (min 2048 (length rows)) (length report)
 
   -- the numbers end at 12, "report longer than its buffer"
   pub answer_number : number_of r ≤ report_too_long
-  answer_number = subst (λ (a : Answer). number_of a ≤ report_too_long) (sym is) (by_number _ _ _ _ _ (refusal_most s (length words) (length reals)))
+  unfolding body_refusal_of
+  answer_number = subst (λ (a : Result ℕ Refusal). number_of a ≤ report_too_long) (sym is) (by_number _ _ _ _ (refusal_most s (length words) (length reals)))
 
   -- 0 is none
   pub accepted_zero : is_accepted r ≡ true → number_of r ≡ 0
   accepted_zero ok = zero_of r ok
 
   pub zero_accepted : number_of r ≡ 0 → is_accepted r ≡ true
-  zero_accepted e = accepted_by r _ _ _ _ _ is refl e
+  zero_accepted e = of_zero r e
 
   -- ---- the report: by the file alone
   pub report_alone : is_accepted r ≡ true → report' ≡ report_of (part_of s) ++ drop (length (report_of (part_of s))) report
@@ -104,12 +104,12 @@ module _ {s words words' : List ℕ} {reals reals' : List Float} {rows rows' : L
       (determined (faults_of (part_of s)) p.lines (lines_of (faults_of (part_of s))) p.listed (listed (faults_of (part_of s))))
 
   pub report_length : is_accepted r ≡ true → length_of r ≡ length (report_of (part_of s))
-  report_length ok = ap length_of is ∙ by_length _ _ _ _ _ (ap is_accepted (sym is) ∙ ok)
+  report_length ok = ap length_of is ∙ by_length _ _ _ _ (ap is_accepted (sym is) ∙ ok)
 
   -- ---- the readings that an accepted check keeps: item 11 of document 02
   pub accepted_checked : is_accepted r ≡ true → Checked s
   accepted_checked ok =
-      put_checked s (length words) (length reals) _ refl (by_good _ _ _ (body_refusal_of s (length words) (length reals)) _ refl (ap is_accepted (sym is) ∙ ok))
+      put_checked s (length words) (length reals) (put_number s (length words) (length reals) (by_good _ _ _ _ (ap is_accepted (sym is) ∙ ok)))
 
   -- "Where normal and direction have an exact dot product of at least 0.02 in size, the reading differs from the exact distance along the ray to that
   -- plane, plus the exact f64 1e-6, by less than 1e-7 mm"
@@ -124,7 +124,7 @@ module _ {s words words' : List ℕ} {reals reals' : List Float} {rows rows' : L
 
 -- ---- the outcome: the only one of a call
 module _ {s words words1 words2 : List ℕ} {reals reals1 reals2 : List Float} {rows rows1 rows2 : List FaultRow}
-    {report report1 report2 : List ℕ} {r1 r2 : Answer} (a : Outcome s words words1 reals reals1 rows rows1 report report1 r1)
+    {report report1 report2 : List ℕ} {r1 r2 : Result ℕ Refusal} (a : Outcome s words words1 reals reals1 rows rows1 report report1 r1)
     (b : Outcome s words words2 reals reals2 rows rows2 report report2 r2) where
   one_answer : r1 ≡ r2
   one_answer = a.answer ∙ sym b.answer

@@ -1,6 +1,6 @@
 -- What the check of a part file answers, and what it leaves in each lent buffer. Definitions only.
-use Rattle.std.specs.Prelude.{◌≢◌}
-use Rattle.std.specs.Prelude.{◌≡◌, true, false, List, ◌++◌, ℕ, min, length, drop, replicate, Float}
+use Rattle.std.specs.Prelude.{◌≡◌, ◌≢◌, true, false, List, ◌++◌, ℕ, min, length, drop, replicate, Float, Result}
+use Rattle.refusal.specs.declared.Refusal.{Refusal}
 use Rattle.math.specs.Vector.{zero}
 use Rattle.file_part.specs.Part.{Part, part_of}
 use Rattle.scratch.specs.Refusal.{body_refusal_of}
@@ -9,7 +9,6 @@ use Rattle.fault_rows.specs.Rows.{zero_row_of}
 use Rattle.fault_lines.specs.Line.{Line}
 use Rattle.fault_lines.specs.Listed.{Listed}
 use Rattle.dfm_core.specs.report.specs.Text.{report_text}
-use Rattle.dfm_core.specs.declared.answer.Answer.{Answer}
 use Rattle.dfm_core.specs.Faults.{faults_of, summary_of}
 use Rattle.dfm_core.specs.Answer.{is_accepted, answer_of}
 
@@ -35,7 +34,7 @@ pub record Printed (t : Part) (report report' : List ℕ) : Type 0 where
 
 -- ---- the outcome of a call
 -- 11: "more faults than fault rows lent, or over 2,048"
-pub record Outcome (s words words' : List ℕ) (reals reals' : List Float) (rows rows' : List FaultRow) (report report' : List ℕ) (r : Answer) : Type 0 where
+pub record Outcome (s words words' : List ℕ) (reals reals' : List Float) (rows rows' : List FaultRow) (report report' : List ℕ) (r : Result ℕ Refusal) : Type 0 where
   pub answer : r ≡ answer_of s (length words) (length reals) (min 2048 (length rows)) (length report)
   pub untouched : (body_refusal_of s (length words) (length reals) ≢ 0) → Untouched words words' reals reals' rows rows'
   pub cleared : body_refusal_of s (length words) (length reals) ≡ 0 → Cleared words words' reals reals' rows rows'

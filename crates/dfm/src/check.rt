@@ -3,10 +3,11 @@ ghost use Rattle.std.specs.Prelude.{◌≡◌, ◌≤◌, min, length};
 ghost use Rattle.fault_row.specs.Row.{row_room};
 ghost use Rattle.dfm.specs.Check.{Outcome};
 
-use dfm_core::answer::{Answer, wipe_from};
+use dfm_core::answer::wipe_from;
 use dfm_core::halves::{fault_count, find_faults, finish};
 use fault_row::row::FaultRow;
 use fault_rows::{put_rows, take_rows, wipe_rows};
+use refusal::Refusal;
 
 // The check with cells and numbers that hold every row lent that counts. The faults go into the rows, and the lines are made from those.
 fn check_in(
@@ -17,7 +18,7 @@ fn check_in(
     report: &mut [u8],
     cells: &mut [u32],
     numbers: &mut [f64],
-) -> Answer
+) -> Result<usize, Refusal>
     requires { min (row_room (length cells.old) (length numbers.old)) (length rows.old) ≡ min 2048 (length rows.old) }
     ensures { Outcome file.now words.old words.new reals.old reals.new rows.old rows.new report.old report.new result }
 {
@@ -30,34 +31,20 @@ fn check_in(
     answer
 }
 
-// The check where at most 64 rows are lent.
-fn check_few(
+// The check with so many cells and numbers, which hold every row lent that counts.
+fn check_with<const CELLS: usize, const NUMBERS: usize>(
     file: &[u8],
     words: &mut [u32],
     reals: &mut [f64],
     rows: &mut [FaultRow],
     report: &mut [u8],
-) -> Answer
-    requires { length rows.old ≤ 64 }
+) -> Result<usize, Refusal>
+    requires small { (CELLS ≤ 12288) × (NUMBERS ≤ 6144) }
+    requires room { min (row_room CELLS NUMBERS) (length rows.old) ≡ min 2048 (length rows.old) }
     ensures { Outcome file.now words.old words.new reals.old reals.new rows.old rows.new report.old report.new result }
 {
-    let mut cells = [0u32; 384];
-    let mut numbers = [0.0f64; 192];
-    check_in(file, words, reals, rows, report, &mut cells, &mut numbers)
-}
-
-// The check with cells for every row that counts.
-fn check_many(
-    file: &[u8],
-    words: &mut [u32],
-    reals: &mut [f64],
-    rows: &mut [FaultRow],
-    report: &mut [u8],
-) -> Answer
-    ensures { Outcome file.now words.old words.new reals.old reals.new rows.old rows.new report.old report.new result }
-{
-    let mut cells = [0u32; 12_288];
-    let mut numbers = [0.0f64; 6_144];
+    let mut cells = [0u32; CELLS];
+    let mut numbers = [0.0f64; NUMBERS];
     check_in(file, words, reals, rows, report, &mut cells, &mut numbers)
 }
 
@@ -70,11 +57,11 @@ pub fn check(
     reals: &mut [f64],
     rows: &mut [FaultRow],
     report: &mut [u8],
-) -> Answer
+) -> Result<usize, Refusal>
     ensures { Outcome file.now words.old words.new reals.old reals.new rows.old rows.new report.old report.new result }
 {
     if rows.len() <= 64 {
-        return check_few(file, words, reals, rows, report);
+        return check_with::<384, 192>(file, words, reals, rows, report);
     }
-    check_many(file, words, reals, rows, report)
+    check_with::<12_288, 6_144>(file, words, reals, rows, report)
 }

@@ -1,6 +1,7 @@
 -- What is found of a part, by the process of its job.
 use mathlib.Core.Path.{◌≡◌, refl, sym, ap, ◌∙◌}
 use mathlib.Core.Bool.{true, cond}
+use mathlib.Core.Logic.{◌⊎◌, inl, inr}
 use mathlib.Core.List.{List, []}
 use Prim.Native.Nat.{ℕ}
 use native.Mathlib.Omega.{arith}
@@ -9,7 +10,7 @@ use lib.Ieee.{Float}
 use borrow.Author.Tests.{eq-eqb, ne_eqb}
 use Rattle.file_job.specs.declared.Job.{Job}
 use Rattle.file_job.specs.declared.Process.{Process}
-use Rattle.file_job.specs.declared.Process.TheVariants.{CncMachining, SheetMetal}
+use Rattle.file_job.specs.declared.Process.TheVariants.{CncMachining, SheetMetal, Fdm, Sla, Sls}
 use Rattle.file_part.specs.Part.{Part, part_of}
 use Rattle.solid_faces.specs.Faces.{faces_of}
 use Rattle.scratch.specs.declared.regions.Regions.{Regions}
@@ -28,8 +29,14 @@ use Rattle.dfm_core.specs.Work.{asks_segments, StagesFor, Asked, MachinedPut, Fa
 use Rattle.dfm_core.proofs.ToldLaws.{told_machined, told_sheet, told_print}
 
 -- ---- what a process asks for
-pub stages_for : (p q : Process) (r : Stages) → p ≡ q → r.segments ≡ asks_segments q → r.bodies ≡ traps_hollows_of q → StagesFor p r
-stages_for p q r e es eb = record { segments = es ∙ ap asks_segments (sym e); bodies = eb ∙ ap traps_hollows_of (sym e) }
+-- each process asks for segments
+pub all_ask : (p : Process) → true ≡ asks_segments p
+unfolding asks_segments
+all_ask CncMachining = refl
+all_ask SheetMetal = refl
+all_ask Fdm = refl
+all_ask Sla = refl
+all_ask Sls = refl
 
 pub asked : (s : List ℕ) (at : Regions) (job : Job) (stages : Stages) → job ≡ (part_of s).job → StagesFor job.process stages → at.segments ≡ stages.segments →
     at.bodies ≡ stages.bodies → Asked (part_of s) at
@@ -43,9 +50,16 @@ asked s at job stages e for es eb =
 pub process_is : (s : List ℕ) (job : Job) (p : Process) → job ≡ (part_of s).job → job.process ≡ p → (part_of s).job.process ≡ p
 process_is s job p ej ep = ap (λ (j : Job). j.process) (sym ej) ∙ ep
 
--- a process that asks for segments
-pub with_segments : (s : List ℕ) (at : Regions) (p : Process) → Asked (part_of s) at → (part_of s).job.process ≡ p → asks_segments p ≡ true → at.segments ≡ true
-with_segments s at p h e asks = h.segments ∙ ap asks_segments e ∙ asks
+-- so they are there
+pub with_segments : (t : Part) (at : Regions) → Asked t at → at.segments ≡ true
+with_segments t at h = h.segments ∙ sym (all_ask t.job.process)
+
+-- FDM, SLA and SLS print
+pub by_printing : (t : Part) (p : Process) → (p ≡ Fdm) ⊎ ((p ≡ Sla) ⊎ (p ≡ Sls)) → (printing t ≡ flaws_by p t) × (print.summary_of t ≡ summary_by p t)
+unfolding flaws_by summary_by
+by_printing t p (inl e) = (rw e refl, rw e refl)
+by_printing t p (inr (inl e)) = (rw e refl, rw e refl)
+by_printing t p (inr (inr e)) = (rw e refl, rw e refl)
 
 -- ---- with faces and without
 by_none : {X : Type 0} (n : ℕ) (a b : X) → n ≡ 0 → a ≡ cond (eqb n 0) a b

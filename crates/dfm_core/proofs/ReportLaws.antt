@@ -9,14 +9,16 @@ use lib.Dec.{eqb, leb}
 use lib.ListN.{length, drop, replicate}
 use lib.Ieee.{Float}
 use borrow.Author.Tests.{eq-eqb, ne_eqb, le-leb, lt-leb}
-use Rattle.refusal.specs.Numbers.{too_many_faults, report_too_long}
-use Rattle.num_float.proofs.Tests.{contrary}
+use Rattle.std.specs.Prelude.{⊤, Result, Ok, Err}
+use Rattle.refusal.specs.declared.Refusal.{Refusal}
+use Rattle.refusal.specs.declared.Refusal.TheVariants.{TooManyFaults, ReportTooLong}
 use Rattle.math.specs.Vector.{zero as nought}
 use Rattle.file_part.specs.Part.{Part, part_of}
 use Rattle.solid_faces.specs.Faces.{faces_of}
 use Rattle.scratch.specs.declared.regions.Regions.{Regions}
 use Rattle.scratch.specs.Work.{regions_of}
-use Rattle.scratch.specs.Refusal.{body_refusal_of}
+use Rattle.scratch.specs.Refusal.{body_result_of, body_refusal_of}
+use Rattle.scratch.proofs.RefusalLaws.{number_put}
 use Rattle.scratch.specs.Standing.{Placed}
 use Rattle.scratch.proofs.RegionLaws.{only_regions}
 use Rattle.fault_row.specs.declared.row.FaultRow.{FaultRow}
@@ -34,16 +36,13 @@ use Rattle.report.specs.fault_merge.specs.Work.{faults_to}
 use Rattle.report.specs.fault_merge.proofs.RowLaws.{rows_put, rows_good}
 use Rattle.report.specs.report_faces.specs.Named.{named_of, named_at}
 use Rattle.report.specs.report_faces.specs.Work.{Told, Kept}
-use Rattle.report.specs.declared.report.Written.{Written}
-use Rattle.report.specs.declared.report.Written.TheVariants.{Bytes, TooLong}
 use Rattle.report.specs.Text.{report_text}
 use Rattle.report.specs.Report.{fits, Reported}
-use Rattle.dfm_core.specs.declared.answer.Answer.{Answer}
-use Rattle.dfm_core.specs.declared.answer.Answer.TheVariants.{Accepted, Refused}
 use Rattle.dfm_core.specs.declared.halves.Findings.{Findings}
 use Rattle.dfm_core.specs.Faults.{flaws_of, faults_of, report_of}
 use Rattle.dfm_core.specs.Answer.{is_accepted}
-use Rattle.dfm_core.specs.Work.{is_early, Asked, FaultsFound, answer_for, refusal_of, answer_after, refused_by, Ready, Finding, Answered, Ended}
+use Rattle.dfm_core.specs.Work.{keeps_buffers, Asked, FaultsFound, refusal_of, answer_after, refusal_in, faults_in, Ready, Finding, Answered, Ended}
+use Rattle.dfm_core.proofs.AnswerLaws.{after_keeps}
 
 -- a test that is known
 pub by_true : {X : Type 0} (b : Bool) (x y : X) → b ≡ true → cond b x y ≡ x
@@ -53,21 +52,17 @@ pub by_false : {X : Type 0} (b : Bool) (x y : X) → b ≡ false → cond b x y 
 by_false b x y e = rw e refl
 
 -- ---- the first half
-pub refused_is : (k : ℕ) (x : Summary) → x ≡ no_summary → (record { refusal = k; faults = 0; faces = 0; summary = x }) ≡ refused_by k
-refused_is k x e = ap (λ (y : Summary). record { refusal = k; faults = 0; faces = 0; summary = y }) e
-
 module _ (s words : List ℕ) (reals : List Float) (cells : List ℕ) (numbers : List Float) (lent : ℕ) where
   -- 1 to 10
-  pub finding_early : (q : ℕ) (r : Findings) → q ≡ body_refusal_of s (length words) (length reals) → (q ≡ 0 → ⊥) → r ≡ refused_by q →
+  pub finding_early : (q : Refusal) (r : Result Findings Refusal) → body_result_of s (length words) (length reals) ≡ Err q → r ≡ Err q →
       Finding s words words reals reals cells cells numbers numbers lent r
-  unfolding refusal_of
-  finding_early q r e other is =
+  unfolding refusal_of refusal_in faults_in
+  finding_early q r e is =
       subst (Finding s words words reals reals cells cells numbers numbers lent) (sym is)
       (record {
-        refusal = e ∙ sym (by_false _ _ _ (ne_eqb (body_refusal_of s (length words) (length reals)) 0 (λ z. other (e ∙ z))));
+        refusal = rw e refl;
         fits = omega arith;
-        none = λ _. refl;
-        ready = λ z. absurd (other z);
+        ready = λ f z. (cc);
         untouched = λ _. (refl, refl);
       })
 
@@ -86,25 +81,22 @@ module _ (s : List ℕ) (at : Regions) (words words1 words' : List ℕ) (reals r
   unfolding faults_of
   fault_count = omega (arith, h.put.count, told_length t (flaws_of t))
 
-  -- 11
-  pub finding_many : (r : Findings) → (rows < x.faults) ⊎ (lent < x.faults) → r ≡ refused_by too_many_faults → Finding s words words' reals reals' cells cells' numbers numbers' lent r
+  -- as no refusal from 1 to 10 is met
+  refusal_by : (few : Bool) → leb (length (faults_of t)) (min (row_room (length cells) (length numbers)) lent) ≡ few →
+      cond few (Ok tt) (Err TooManyFaults) ≡ refusal_of s (length words) (length reals) (min (row_room (length cells) (length numbers)) lent)
   unfolding refusal_of
-  finding_many r many is =
-      subst (Finding s words words' reals reals' cells cells' numbers numbers' lent) (sym is)
-      (record {
-        refusal = rw (
-          eq-eqb (body_refusal_of s (length words) (length reals)) 0 z,
-          lt-leb (length (faults_of t)) (min (row_room (length cells) (length numbers)) lent) (over many),
-        ) refl;
+  refusal_by few e = rw (number_put s (length words) (length reals) z, e) refl
+
+  -- 11
+  pub finding_many : (m : ℕ) → m ≡ min rows lent → m < x.faults → Finding s words words' reals reals' cells cells' numbers numbers' lent (Err TooManyFaults)
+  unfolding refusal_in faults_in
+  finding_many m is many =
+      record {
+        refusal = refusal_by false (lt-leb (length (faults_of t)) (min (row_room (length cells) (length numbers)) lent) (omega (arith, is, many, rows_same, fault_count)));
         fits = omega arith;
-        none = λ _. refl;
-        ready = λ e. absurd (omega (arith, e));
+        ready = λ f e. (cc);
         untouched = λ other. absurd (other z);
-      })
-    where
-      over : (rows < x.faults) ⊎ (lent < x.faults) → min (row_room (length cells) (length numbers)) lent < length (faults_of t)
-      over (inl l) = omega (arith, l, rows_same, fault_count)
-      over (inr l) = omega (arith, l, fault_count)
+      }
 
   -- the report's text, of what was found
   found_text : x.faults ≤ rows → report_text x.summary (lines_of (faults_to (part_of s) cells' numbers' x.faults)) ≡ report_of (part_of s)
@@ -114,36 +106,37 @@ module _ (s : List ℕ) (at : Regions) (words words1 words' : List ℕ) (reals r
       (rows_put t (flaws_of t) cells cells' numbers numbers' x.faults h.put (omega (arith, room, rows_same)))
 
   -- none of 1 to 11
-  pub finding_good : x.faults ≤ rows → x.faults ≤ lent → (n : ℕ) → n ≡ faces_of (part_of s) → Asked (part_of s) at →
-      Finding s words words' reals reals' cells cells' numbers numbers' lent (record { refusal = 0; faults = x.faults; faces = n; summary = x.summary })
-  unfolding refusal_of
-  finding_good room enough n is asks =
-      let inside : x.faults ≤ min (row_room (length cells) (length numbers)) lent = omega (arith, room, enough, rows_same) in
-      record {
-        refusal = rw (
-          eq-eqb (body_refusal_of s (length words) (length reals)) 0 z,
-          le-leb (length (faults_of t)) (min (row_room (length cells) (length numbers)) lent) (omega (arith, inside, fault_count)),
-        ) refl;
-        fits = inside;
-        none = λ other. absurd (other refl);
-        ready = λ _.
+  pub finding_good : (m : ℕ) → m ≡ min rows lent → x.faults ≤ m → (n : ℕ) → n ≡ faces_of (part_of s) → Asked (part_of s) at →
+      Finding s words words' reals reals' cells cells' numbers numbers' lent (Ok (record { faults = x.faults; faces = n; summary = x.summary }))
+  unfolding refusal_in faults_in
+  finding_good m least enough n is asks =
+      let inside : x.faults ≤ min (row_room (length cells) (length numbers)) lent = omega (arith, least, enough, rows_same) in
+      let room : x.faults ≤ rows = omega (arith, least, enough) in
+      let found : Findings = record { faults = x.faults; faces = n; summary = x.summary } in
+      let ready : Ready s words' cells' numbers' found = record {
+        at = at;
+        asked = asks;
+        kept =
             record {
-              at = at;
-              asked = asks;
-              kept =
-                  record {
-                    placed = h.standing.placed;
-                    room = h.standing.words_room;
-                    body = h.standing.the_words;
-                    ranked = h.ranked;
-                    faces = is;
-                    rows = rows_good s (flaws_of t) cells cells' numbers numbers' x.faults h.standing.placed.checked h.put (omega (arith, room, rows_same));
-                    told = λ k low. h.told k low (omega (arith, room, rows_same, low));
-                  };
-              text = found_text room;
+              placed = h.standing.placed;
+              room = h.standing.words_room;
+              body = h.standing.the_words;
+              ranked = h.ranked;
+              faces = is;
+              rows = rows_good s (flaws_of t) cells cells' numbers numbers' x.faults h.standing.placed.checked h.put (omega (arith, room, rows_same));
+              told = λ k low. h.told k low (omega (arith, room, rows_same, low));
             };
+        text = found_text room;
+      } in
+      record {
+        refusal = refusal_by true (le-leb (length (faults_of t)) (min (row_room (length cells) (length numbers)) lent) (omega (arith, inside, fault_count)));
+        fits = inside;
+        ready = λ f e. subst (Ready s words' cells' numbers') (same found f e) ready;
         untouched = λ other. absurd (other z);
       }
+    where
+      same : (f g : Findings) → ◌≡◌ {A = Result Findings Refusal} (Ok f) (Ok g) → f ≡ g
+      same f g e = cc
 
 -- ---- between the halves
 -- cells and numbers that hold the same rows hold the same faults
@@ -201,56 +194,40 @@ ready_kept s words cells numbers r at h placed asks =
     (same_regions s h.at at h.kept.placed placed h.asked asks) h.kept
 
 -- a part that is turned back
-pub answered_refused : (s report : List ℕ) (k : ℕ) → (k ≡ 0 → ⊥) → Answered s k report report (Refused k)
-unfolding answer_after is_accepted
-answered_refused s report k other = record { answer = sym (by_false _ _ _ (ne_eqb k 0 other)); buffer = refl }
-
--- the answer by whether the report fits
-fit_answer : (b : Bool) (n : ℕ) → answer_for (cond b (Bytes n) TooLong) ≡ cond b (Accepted n) (Refused report_too_long)
-unfolding answer_for
-fit_answer true n = refl
-fit_answer false n = refl
-
-fit_accepted : (b : Bool) (n : ℕ) → b ≡ is_accepted (cond b (Accepted n) (Refused report_too_long))
-unfolding is_accepted
-fit_accepted true n = refl
-fit_accepted false n = refl
+pub answered_refused : (s report : List ℕ) (x : Result Findings Refusal) (k : Refusal) (r : Result ℕ Refusal) → x ≡ Err k → r ≡ Err k → Answered s (refusal_in x) report report r
+unfolding answer_after refusal_in is_accepted
+answered_refused s report x k r e is = record { answer = rw (e, is) refl; buffer = rw is refl }
 
 -- the report, or 12
-pub answered_report : (s words cells : List ℕ) (numbers : List Float) (f : Findings) (report report' : List ℕ) (w : Written) (r : Answer) → Ready s words cells numbers f →
-    f.refusal ≡ 0 → Reported (report_text f.summary (lines_of (faults_to (part_of s) cells numbers f.faults))) report report' w → r ≡ answer_for w →
-    Answered s f.refusal report report' r
-unfolding answer_after fits
-answered_report s words cells numbers f report report' w r ready good written is =
+pub answered_report : (s words cells : List ℕ) (numbers : List Float) (x : Result Findings Refusal) (f : Findings) (report report' : List ℕ) (r : Result ℕ Refusal) →
+    Ready s words cells numbers f → x ≡ Ok f → Reported (report_text f.summary (lines_of (faults_to (part_of s) cells numbers f.faults))) report report' r →
+    Answered s (refusal_in x) report report' r
+unfolding answer_after refusal_in fits is_accepted
+answered_report s words cells numbers x f report report' r ready good written =
     record {
-      answer = told ∙ sym (by_true (eqb f.refusal 0) _ _ (eq-eqb f.refusal 0 good));
-      buffer = done.buffer ∙ ap (λ (b : Bool). cond b (report_of (part_of s) ++ drop (length (report_of (part_of s))) report) report) (fit_accepted fit (length (report_of (part_of s))) ∙ ap is_accepted (sym told));
+      answer = rw good done.answer;
+      buffer = done.buffer ∙ ap (λ (b : Bool). cond b (report_of (part_of s) ++ drop (length (report_of (part_of s))) report) report) (fit_accepted fit (length (report_of (part_of s))) ∙ ap is_accepted (sym done.answer));
     }
   where
     fit : Bool
     fit = leb (length (report_of (part_of s))) (length report)
 
-    done : Reported (report_of (part_of s)) report report' w
-    done = subst (λ (l : List ℕ). Reported l report report' w) ready.text written
+    done : Reported (report_of (part_of s)) report report' r
+    done = subst (λ (l : List ℕ). Reported l report report' r) ready.text written
 
-    told : r ≡ cond fit (Accepted (length (report_of (part_of s)))) (Refused report_too_long)
-    told = is ∙ ap answer_for done.answer ∙ fit_answer fit (length (report_of (part_of s)))
+    fit_accepted : (b : Bool) (n : ℕ) → b ≡ is_accepted (cond b (Ok n) (Err ReportTooLong))
+    fit_accepted true n = refl
+    fit_accepted false n = refl
 
 -- the scratch: as it was, or all zero
-pub early_some : (k : ℕ) → is_early k ≡ true → k ≡ 0 → ⊥
-unfolding is_early
-early_some zero h e = contrary h refl
-early_some (suc k) h e = omega (arith, e)
+module _ (s words : List ℕ) (reals : List Float) (refusal : Result ⊤ Refusal) (report report' : List ℕ) (r : Result ℕ Refusal) (h : Answered s refusal report report' r) where
+  kept : (b : Bool) → keeps_buffers r ≡ b → keeps_buffers refusal ≡ b
+  kept b e = sym (after_keeps refusal s (length report)) ∙ ap (λ (a : Result ℕ Refusal). keeps_buffers a) (sym h.answer) ∙ e
 
-pub ended_early : (s words : List ℕ) (reals : List Float) (k : ℕ) (report : List ℕ) → is_early k ≡ true → Ended s words words reals reals k report report (Refused k)
-ended_early s words reals k report early =
-    record {
-      answered = answered_refused s report k (early_some k early);
-      words_left = sym (by_true _ _ _ early);
-      reals_left = sym (by_true _ _ _ early);
-    }
+  pub ended_early : keeps_buffers r ≡ true → Ended s words words reals reals refusal report report' r
+  ended_early early = record { answered = h; words_left = sym (by_true _ _ _ (kept true early)); reals_left = sym (by_true _ _ _ (kept true early)) }
 
-pub ended_late : (s words words' : List ℕ) (reals reals' : List Float) (k : ℕ) (report report' : List ℕ) (r : Answer) → is_early k ≡ false →
-    Answered s k report report' r → words' ≡ replicate (length words) 0 → reals' ≡ replicate (length reals) nought → Ended s words words' reals reals' k report report' r
-ended_late s words words' reals reals' k report report' r late h ew er =
-    record { answered = h; words_left = ew ∙ sym (by_false _ _ _ late); reals_left = er ∙ sym (by_false _ _ _ late) }
+  pub ended_late : (words' : List ℕ) (reals' : List Float) → keeps_buffers r ≡ false → words' ≡ replicate (length words) 0 → reals' ≡ replicate (length reals) nought →
+      Ended s words words' reals reals' refusal report report' r
+  ended_late words' reals' late ew er =
+      record { answered = h; words_left = ew ∙ sym (by_false _ _ _ (kept false late)); reals_left = er ∙ sym (by_false _ _ _ (kept false late)) }

@@ -1,4 +1,5 @@
 -- The flaws of each process are such that the scratch tells the faces that are found from the part: every row is `Told` (report_faces).
+use Rattle.std.specs.Prelude.{Option, Some, None}
 use mathlib.Core.Path.{◌≡◌, refl, sym, ap, ◌∙◌, subst}
 use mathlib.Core.Bool.{Bool, true, false, ◌&&◌, cond}
 use mathlib.Core.List.{List, [], ◌∷◌, ◌++◌}
@@ -41,7 +42,7 @@ use Rattle.rule_machining.specs.All.{machining, MachiningPut}
 use Rattle.sheet_bends.specs.Bends.{is_bend, is_bend_face}
 use Rattle.rule_sheet.specs.rule_flanges.specs.declared.legs.Leg.{Leg}
 use Rattle.rule_sheet.specs.rule_flanges.specs.Flanges.{reach_of, min_flange, flange_flaw, flange_flaws, flanges_of, bend_flanges, short_flanges}
-use Rattle.rule_sheet.specs.rule_holes.specs.declared.nearest.Nearest.{Nearest}
+use Rattle.rule_sheet.specs.rule_holes.specs.declared.nearest.Gap.{Gap}
 use Rattle.rule_sheet.specs.rule_holes.specs.Nearest.{nearest_of}
 use Rattle.rule_sheet.specs.rule_holes.specs.Holes as hole
 use Rattle.rule_printing.specs.print_walls.specs.declared.Thinnest.{Thinnest}
@@ -171,11 +172,11 @@ module _ (t : Part) (at : Regions) (words : List ℕ) where
   too_close_lem true f g gap need = tt
   too_close_lem false f g gap need = tt
 
-  close_flaw_lem : (thick : Float) (f : ℕ) (n : Nearest) → Each Tells (hole.close_flaw t thick f n)
+  close_flaw_lem : (thick : Float) (f : ℕ) (n : Option Gap) → Each Tells (hole.close_flaw t thick f n)
   unfolding hole.close_flaw hole.gap_flaw
-  close_flaw_lem thick f n =
-      each_if n.found
-      (each_if (lt (add binary64 n.gap e_9) (hole.need_of t thick (is_bend_face t thick n.other))) (each_only (too_close_lem (is_bend_face t thick n.other) f n.other _ _)))
+  close_flaw_lem thick f None = each_none
+  close_flaw_lem thick f (Some n) =
+      each_if (lt (add binary64 n.gap e_9) (hole.need_of t thick (is_bend_face t thick n.other))) (each_only (too_close_lem (is_bend_face t thick n.other) f n.other _ _))
 
   sheet_holes_lem : (thick : Float) → Each Tells (hole.sheet_holes t thick)
   unfolding hole.sheet_holes hole.hole_flaws

@@ -1,49 +1,25 @@
-// The answer to a part file.
+// The answer to a part file: how many bytes the report has, or the refusal, one of 1 to 12. By the file: specs/Answer.antt.
 ghost use Rattle.std.specs.Prelude.{◌≡◌};
-ghost use Rattle.dfm_core.specs.Work.{is_early, wipe_from, answer_for};
+ghost use Rattle.dfm_core.specs.Work.{keeps_buffers, wipe_from};
 
-use refusal::{REPORT_TOO_LONG, TOO_LITTLE_SCRATCH};
-use report::report::Written;
+use refusal::Refusal;
 
-// What the check of a part answers. Its numbers: specs/Answer.antt.
-#[derive(Clone, Copy)]
-pub enum Answer {
-    // The report stands in so many bytes.
-    Accepted { length: usize },
-    // The part is turned back, for the reason with this number, from 1 to 12.
-    Refused { number: u32 },
-}
-
-// Whether the number is that of a refusal which changes no buffer.
-pub(crate) fn is_early(number: u32) -> bool
-    ensures { result ≡ is_early number }
+// Whether the buffers stay as they were: after a refusal from 1 to 10.
+pub(crate) fn keeps_buffers(answer: Result<usize, Refusal>) -> bool
+    ensures { result ≡ keeps_buffers answer }
 {
-    (0 < number) & (number <= TOO_LITTLE_SCRATCH)
-}
-
-// The answer where the report was written or is too long.
-pub(crate) fn answer_of(written: Written) -> Answer
-    ensures { result ≡ answer_for written }
-{
-    match written {
-        Written::Bytes(n) => Answer::Accepted { length: n },
-        Written::TooLong => Answer::Refused {
-            number: REPORT_TOO_LONG,
-        },
+    match answer {
+        Ok(_) => false,
+        Err(refusal) => refusal.number() <= Refusal::TooLittleScratch.number(),
     }
 }
 
 // From which number on the rows lent are zeroed at the end: all, or none after a refusal that changes no buffer.
-pub fn wipe_from(answer: Answer, rows: usize) -> usize
+pub fn wipe_from(answer: Result<usize, Refusal>, rows: usize) -> usize
     ensures { result ≡ wipe_from answer rows }
 {
-    match answer {
-        Answer::Accepted { length: _ } => 0,
-        Answer::Refused { number } => {
-            if is_early(number) {
-                return rows;
-            }
-            0
-        }
+    if keeps_buffers(answer) {
+        return rows;
     }
+    0
 }

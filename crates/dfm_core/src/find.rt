@@ -9,6 +9,7 @@ use fault_row::summary::{Found, Summary};
 use file_job::Process;
 use report::fault_text::job::job_of;
 use rule_machining::machining::{Body, machining};
+use rule_printing::hollows::traps_hollows;
 use rule_printing::printing::printing;
 use rule_sheet::sheet::sheet_metal;
 use scratch::regions::{Regions, Stages};
@@ -17,27 +18,9 @@ use scratch::regions::{Regions, Stages};
 pub(crate) fn stages_of(process: Process) -> Stages
     ensures { StagesFor process result }
 {
-    match process {
-        Process::CncMachining => Stages {
-            segments: true,
-            bodies: false,
-        },
-        Process::SheetMetal => Stages {
-            segments: true,
-            bodies: false,
-        },
-        Process::Fdm => Stages {
-            segments: true,
-            bodies: false,
-        },
-        Process::Sla => Stages {
-            segments: true,
-            bodies: true,
-        },
-        Process::Sls => Stages {
-            segments: true,
-            bodies: true,
-        },
+    Stages {
+        segments: true,
+        bodies: traps_hollows(process),
     }
 }
 
@@ -56,15 +39,16 @@ fn machined(
     requires fact_3 { at.segments ≡ true }
     ensures { MachinedPut file.now at words.old words.new reals.old reals.new cells.old cells.new numbers.old numbers.new result }
 {
-    let body = Body { at: at, faces: n };
+    let body = Body { at, faces: n };
     let faults = machining(file, words, reals, cells, numbers, body);
     Found {
-        faults: faults,
+        faults,
         summary: Summary::none(),
     }
 }
 
 // The faults of a part of n faces that stands in the scratch, as rows from 0 on, as many as are lent, and what else is found.
+// A match, not a table of closures: each process has its own rules, and leaves other things standing.
 pub(crate) fn find(
     file: &[u8],
     words: &mut [u32],
@@ -85,13 +69,11 @@ pub(crate) fn find(
             summary: Summary::none(),
         };
     }
-    let job = job_of(file);
-    let process = job.process;
-    match process {
+    match job_of(file).process {
         Process::CncMachining => machined(file, words, reals, cells, numbers, at, n),
         Process::SheetMetal => sheet_metal(file, words, reals, cells, numbers, at, n),
-        Process::Fdm => printing(file, words, reals, cells, numbers, at, n),
-        Process::Sla => printing(file, words, reals, cells, numbers, at, n),
-        Process::Sls => printing(file, words, reals, cells, numbers, at, n),
+        Process::Fdm | Process::Sla | Process::Sls => {
+            printing(file, words, reals, cells, numbers, at, n)
+        }
     }
 }

@@ -1,14 +1,15 @@
 // The two halves of the check. Between them the faults stand as rows, and whoever holds those may pass them on.
-ghost use Rattle.std.specs.Prelude.{◌≡◌, length};
+ghost use Rattle.std.specs.Prelude.{◌≡◌, length, Ok};
 ghost use Rattle.scratch.specs.Refusal.{body_refusal_of};
-ghost use Rattle.dfm_core.specs.Work.{refused_by, Finding, Ready, Answered, Ended};
+ghost use Rattle.dfm_core.specs.Work.{refusal_in, faults_in, Finding, Ready, Answered, Ended};
+ghost use Rattle.dfm_core.specs.declared.halves.Findings.{Findings};
 
-use crate::answer::{Answer, answer_of, is_early};
+use crate::answer::keeps_buffers;
 use crate::find::{find, stages_of};
 use fault_row::row::rows_lent;
 use fault_row::summary::Summary;
-use list_cells::{fill_reals, fill_words};
-use refusal::{ACCEPTED, TOO_MANY_FAULTS};
+use list_cells::fill;
+use refusal::Refusal;
 use report::fault_text::job::job_of;
 use report::report::write_report;
 use report::report_faces::marks::Listing;
@@ -16,28 +17,14 @@ use scratch::body::put_body;
 use scratch::regions::Regions;
 use scratch::verdict::body_refusal;
 
-// What the first half leaves beside the rows.
+// What the first half leaves beside the rows, of a part that is not turned back.
 #[derive(Clone, Copy)]
 pub struct Findings {
-    // The number of a refusal from 1 to 11; 0 for none.
-    pub refusal: u32,
-    // How many faults stand as rows: none where the part is turned back.
+    // How many faults stand as rows.
     pub faults: usize,
-    // How many faces the part has, where it is not.
+    // How many faces the part has.
     pub faces: usize,
     pub summary: Summary,
-}
-
-// The part is turned back.
-fn refused(number: u32) -> Findings
-    ensures { result ≡ refused_by number }
-{
-    Findings {
-        refusal: number,
-        faults: 0,
-        faces: 0,
-        summary: Summary::none(),
-    }
 }
 
 // What is found of a part that none of 1 to 10 turns back.
@@ -48,29 +35,21 @@ fn find_part(
     cells: &mut [u32],
     numbers: &mut [f64],
     lent: usize,
-) -> Findings
+) -> Result<Findings, Refusal>
     requires { body_refusal_of file.now (length words.old) (length reals.old) ≡ 0 }
     ensures { Finding file.now words.old words.new reals.old reals.new cells.old cells.new numbers.old numbers.new lent result }
 {
-    let job = job_of(file);
-    let process = job.process;
-    let at = Regions::of(file, stages_of(process));
-    let n = put_body(file, words, reals, at);
-    let found = find(file, words, reals, cells, numbers, at, n);
-    let faults = found.faults;
-    let summary = found.summary;
-    if rows_lent(cells.len(), numbers.len()) < faults {
-        return refused(TOO_MANY_FAULTS);
+    let at = Regions::of(file, stages_of(job_of(file).process));
+    let faces = put_body(file, words, reals, at);
+    let found = find(file, words, reals, cells, numbers, at, faces);
+    if rows_lent(cells.len(), numbers.len()).min(lent) < found.faults {
+        return Err(Refusal::TooManyFaults);
     }
-    if lent < faults {
-        return refused(TOO_MANY_FAULTS);
-    }
-    Findings {
-        refusal: ACCEPTED,
-        faults: faults,
-        faces: n,
-        summary: summary,
-    }
+    Ok(Findings {
+        faults: found.faults,
+        faces,
+        summary: found.summary,
+    })
 }
 
 // The first half: the part's faults as rows of cells and numbers, or a refusal from 1 to 11, where `lent` rows are lent. What stands in the cells
@@ -82,21 +61,21 @@ pub fn find_faults(
     cells: &mut [u32],
     numbers: &mut [f64],
     lent: usize,
-) -> Findings
+) -> Result<Findings, Refusal>
     ensures { Finding file.now words.old words.new reals.old reals.new cells.old cells.new numbers.old numbers.new lent result }
 {
-    let refusal = body_refusal(file, words.len(), reals.len());
-    if refusal != ACCEPTED {
-        return refused(refusal);
-    }
+    body_refusal(file, words.len(), reals.len())?;
     find_part(file, words, reals, cells, numbers, lent)
 }
 
-// How many faults stand as rows.
-pub fn fault_count(found: Findings) -> usize
-    ensures { result ≡ found.faults }
+// How many faults stand as rows: none where the part is turned back.
+pub fn fault_count(found: Result<Findings, Refusal>) -> usize
+    ensures { result ≡ faults_in found }
 {
-    found.faults
+    match found {
+        Ok(found) => found.faults,
+        Err(_) => 0,
+    }
 }
 
 // The report of a part that was found good, or 12; its refusal where it was not.
@@ -105,25 +84,19 @@ fn answer_part(
     words: &[u32],
     cells: &[u32],
     numbers: &[f64],
-    found: Findings,
+    found: Result<Findings, Refusal>,
     report: &mut [u8],
-) -> Answer
-    requires { found.refusal ≡ 0 → Ready file.now words.now cells.now numbers.now found }
-    ensures { Answered file.now found.refusal report.old report.new result }
+) -> Result<usize, Refusal>
+    requires { (f : Findings) → found ≡ Ok f → Ready file.now words.now cells.now numbers.now f }
+    ensures { Answered file.now (refusal_in found) report.old report.new result }
 {
-    let refusal = found.refusal;
-    if refusal != ACCEPTED {
-        return Answer::Refused { number: refusal };
-    }
-    let job = job_of(file);
-    let process = job.process;
+    let found = found?;
     let given = Listing {
-        at: Regions::of(file, stages_of(process)),
+        at: Regions::of(file, stages_of(job_of(file).process)),
         faces: found.faces,
         faults: found.faults,
     };
-    let summary = found.summary;
-    answer_of(write_report(report, file, words, given, cells, numbers, summary))
+    write_report(report, file, words, given, cells, numbers, found.summary)
 }
 
 // The second half: the report of the faults that stand in cells and numbers, or a refusal. The scratch is all zero then, where 1 to 10 did not turn the
@@ -134,18 +107,17 @@ pub fn finish(
     reals: &mut [f64],
     cells: &[u32],
     numbers: &[f64],
-    found: Findings,
+    found: Result<Findings, Refusal>,
     report: &mut [u8],
-) -> Answer
-    requires { found.refusal ≡ 0 → Ready file.now words.old cells.now numbers.now found }
-    ensures { Ended file.now words.old words.new reals.old reals.new found.refusal report.old report.new result }
+) -> Result<usize, Refusal>
+    requires { (f : Findings) → found ≡ Ok f → Ready file.now words.old cells.now numbers.now f }
+    ensures { Ended file.now words.old words.new reals.old reals.new (refusal_in found) report.old report.new result }
 {
-    let refusal = found.refusal;
-    if is_early(refusal) {
-        return Answer::Refused { number: refusal };
+    let answer = answer_part(file, words, cells, numbers, found, report);
+    if keeps_buffers(answer) {
+        return answer;
     }
-    let out = answer_part(file, words, cells, numbers, found, report);
-    fill_words(words, 0);
-    fill_reals(reals, 0.0);
-    out
+    fill(words, 0);
+    fill(reals, 0.0);
+    answer
 }

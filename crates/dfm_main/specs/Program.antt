@@ -1,17 +1,17 @@
 -- What the program prints for a file. Definitions only.
-use Rattle.std.specs.Prelude.{cond, List, ℕ, ltb, length}
+use Rattle.std.specs.Prelude.{cond, List, ℕ, ltb, length, Result, Ok, Err}
+use Rattle.refusal.specs.declared.Refusal.{Refusal}
+use Rattle.refusal.specs.Numbers.{number}
 use Rattle.num_text.specs.Put.{bytes}
 use Rattle.file_part.specs.Part.{Part, part_of}
-use Rattle.dfm_own.specs.dfm_core.specs.declared.answer.Answer.{Answer}
-use Rattle.dfm_own.specs.dfm_core.specs.declared.answer.Answer.TheVariants.{Accepted, Refused}
 use Rattle.dfm_own.specs.dfm_core.specs.Faults.{report_of}
 use Rattle.dfm_own.specs.dfm_core.specs.Answer.{answer_of}
 use Rattle.dfm_print.specs.Print.{refusal_line}
 
 -- "prints the report, `refused` with a blank and the number"
-unfoldable pub answer_text : Part → Answer → List ℕ
-answer_text t (Accepted n) = report_of t
-answer_text t (Refused k) = refusal_line k
+unfoldable pub answer_text : Part → Result ℕ Refusal → List ℕ
+answer_text t (Ok n) = report_of t
+answer_text t (Err r) = refusal_line (number r)
 
 -- "or `too long`" for more than 16,384 bytes. What is lent: scratch for any file that is not, 512 fault rows, and so many bytes for the report
 unfoldable pub program_text : List ℕ → ℕ → List ℕ

@@ -7,7 +7,7 @@ ghost use Rattle.dfm_main.specs.Program.{program_text};
 
 use dfm_own::check_own;
 use dfm_print::{print_first, put_answer};
-use num_text::put::put_bytes;
+use num_text::text::Text;
 use std::io;
 use stream::read_full;
 
@@ -29,7 +29,9 @@ fn put_printed(file: &[u8], out: &mut [u8]) -> usize
     ensures { Put out.old 0 (program_text file.now (length out.old)) out.new result }
 {
     if LONGEST < file.len() {
-        return put_bytes(out, 0, b"too long\n");
+        let mut text = Text { out, at: 0 };
+        text.put_bytes(b"too long\n");
+        return text.at;
     }
     let mut words = [0u32; WORDS];
     let mut reals = [0.0f64; REALS];

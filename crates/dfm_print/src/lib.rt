@@ -6,9 +6,8 @@ ghost use Rattle.std.specs.Io.KnownBytes.{Appends};
 ghost use Rattle.num_text.specs.Put.{Put};
 ghost use Rattle.dfm_print.specs.Print.{refusal_line, AnswerPut};
 
-use dfm_core::answer::Answer;
-use num_text::number::put_number;
-use num_text::put::{put_byte, put_bytes};
+use num_text::text::Text;
+use refusal::Refusal;
 use std::io;
 use std::io::Write;
 
@@ -16,18 +15,20 @@ use std::io::Write;
 fn put_refusal(out: &mut [u8], number: u32) -> usize
     ensures { Put out.old 0 (refusal_line number) out.new result }
 {
-    let a = put_bytes(out, 0, b"refused ");
-    let b = put_number(out, a, number as u64);
-    put_byte(out, b, 10)
+    let mut text = Text { out, at: 0 };
+    text.put_bytes(b"refused ");
+    text.put_number(number as u64);
+    text.put_byte(10);
+    text.at
 }
 
 // What is printed of an answer, at the start of the report's buffer: the report, which stands there, or the refusal. How many bytes they are.
-pub fn put_answer(report: &mut [u8], answer: Answer) -> usize
+pub fn put_answer(report: &mut [u8], answer: Result<usize, Refusal>) -> usize
     ensures { AnswerPut answer report.old report.new result }
 {
     match answer {
-        Answer::Accepted { length } => length,
-        Answer::Refused { number } => put_refusal(report, number),
+        Ok(length) => length,
+        Err(refusal) => put_refusal(report, refusal.number()),
     }
 }
 

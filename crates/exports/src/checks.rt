@@ -4,20 +4,19 @@ ghost use Rattle.dfm.specs.dfm_core.specs.Answer.{number_of, length_of, is_accep
 ghost use Rattle.exports.specs.Check.{Checks};
 
 use dfm::check::check;
-use dfm::dfm_core::answer::Answer;
 use fault_row::row::FaultRow;
-use refusal::ACCEPTED;
+use refusal::Refusal;
 
 // The number of the refusal, 0 for none; how many bytes the report has goes into `written`, where there is one.
-fn tell(answer: Answer, written: &mut usize) -> u32
+fn tell(answer: Result<usize, Refusal>, written: &mut usize) -> u32
     ensures { (result ≡ number_of answer) × (written.new ≡ cond (is_accepted answer) (length_of answer) written.old) }
 {
     match answer {
-        Answer::Accepted { length } => {
+        Ok(length) => {
             *written = length;
-            ACCEPTED
+            0
         }
-        Answer::Refused { number } => number,
+        Err(refusal) => refusal.number(),
     }
 }
 

@@ -1,8 +1,7 @@
 // The part file of OBJ text.
 ghost use Rattle.exports.specs.Obj.{Returned};
 
-use obj::convert::{Converted, obj_to_part};
-use refusal::ACCEPTED;
+use obj::convert::obj_to_part;
 
 // The part file of the polygons of `text`, with the job of 128 bytes, in the first bytes of `out`, how many in `written`, and 0; or the refusal's
 // number, 14, 15, 3, 5 or 16.
@@ -15,12 +14,11 @@ pub extern "C" fn gablemadder_obj(
 ) -> u32
     ensures { Returned text.now job.now out.old out.new written.old written.new result }
 {
-    let answer = obj_to_part(text, job, out);
-    match answer {
-        Converted::Written(n) => {
+    match obj_to_part(text, job, out) {
+        Ok(n) => {
             *written = n;
-            ACCEPTED
+            0
         }
-        Converted::Refused(number) => number,
+        Err(refusal) => refusal.number(),
     }
 }

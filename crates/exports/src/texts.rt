@@ -1,9 +1,6 @@
 // The decimal writer.
 ghost use Rattle.exports.specs.Decimal.{Returns};
 
-use num_text::decimal::Answer;
-use refusal::{ACCEPTED, NO_DECIMAL};
-
 // x with so many places in the first bytes of `out`, and how many in `written`. 0, or the refusal's number, 13.
 #[unsafe(no_mangle)]
 pub extern "C" fn gablemadder_decimal(
@@ -14,12 +11,11 @@ pub extern "C" fn gablemadder_decimal(
 ) -> u32
     ensures { Returns x places out.old out.new written.old written.new result }
 {
-    let answer = num_text::decimal::decimal(x, places, out);
-    match answer {
-        Answer::Written(n) => {
+    match num_text::decimal::decimal(x, places, out) {
+        Ok(n) => {
             *written = n;
-            ACCEPTED
+            0
         }
-        Answer::Refused => NO_DECIMAL,
+        Err(refusal) => refusal.number(),
     }
 }

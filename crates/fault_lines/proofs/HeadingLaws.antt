@@ -4,53 +4,12 @@ use mathlib.Core.Bool.{true, false, ◌&&◌}
 use mathlib.Core.List.{List, [], ◌∷◌}
 use Prim.Native.Nat.{ℕ}
 use lib.Dec.{eqb}
-use lib.ListN.{get_or}
 use borrow.Author.Tests.{eqb-true, eq-eqb}
 use Rattle.num_float.proofs.Tests.{refuted, contrary, same_test, and_true, and_left, and_right}
-use Rattle.fault_row.specs.declared.fault.Severity.{Severity}
-use Rattle.fault_row.specs.declared.fault.Rule.{Rule}
-use Rattle.fault_row.specs.declared.fault.Rule.TheVariants.{DeepHole, DeepInsideCorner, EnclosedHollow, FewLayers, HoleTooClose, Material, NoMaterial, NotClosed, NotOneThickness, Overhang, SharpInsideCorner, ShortFlange, SmallHole, ThinWall, ThinnerThanALayer, ThinnerThanTheNozzle, TightBend, TightInsideRadius}
-use Rattle.fault_row.specs.Names.{severity_rank, severity_of, rule_rank}
+use Rattle.fault_row.specs.Names.{severity_rank, rule_rank}
 use Rattle.fault_row.specs.Fault.{Heading}
-use Rattle.fault_row.proofs.NameLaws.{severity_of_lem}
+use Rattle.fault_row.proofs.NameLaws.{severity_rank_same, rule_rank_same}
 use Rattle.fault_lines.specs.Line.{same_text, same_heading_of}
-
--- ---- severities and rules by their ranks
-pub severity_rank_same : (s t : Severity) → severity_rank s ≡ severity_rank t → s ≡ t
-severity_rank_same s t e = sym (severity_of_lem s) ∙ ap severity_of e ∙ severity_of_lem t
-
--- the rule of a rank
-rules : List Rule
-rules =
-    DeepHole ∷ DeepInsideCorner ∷ EnclosedHollow ∷ FewLayers ∷ HoleTooClose ∷ Material ∷ NoMaterial ∷ NotClosed ∷ NotOneThickness ∷ Overhang
-    ∷ SharpInsideCorner ∷ ShortFlange ∷ SmallHole ∷ ThinWall ∷ ThinnerThanALayer ∷ ThinnerThanTheNozzle ∷ TightBend ∷ TightInsideRadius ∷ []
-
-rule_of_lem : ℕ → Rule
-rule_of_lem r = get_or rules r NotClosed
-
-rule_of : (r : Rule) → rule_of_lem (rule_rank r) ≡ r
-unfolding rule_of_lem rules rule_rank
-rule_of DeepHole = refl
-rule_of DeepInsideCorner = refl
-rule_of EnclosedHollow = refl
-rule_of FewLayers = refl
-rule_of HoleTooClose = refl
-rule_of Material = refl
-rule_of NoMaterial = refl
-rule_of NotClosed = refl
-rule_of NotOneThickness = refl
-rule_of Overhang = refl
-rule_of SharpInsideCorner = refl
-rule_of ShortFlange = refl
-rule_of SmallHole = refl
-rule_of ThinWall = refl
-rule_of ThinnerThanALayer = refl
-rule_of ThinnerThanTheNozzle = refl
-rule_of TightBend = refl
-rule_of TightInsideRadius = refl
-
-pub rule_rank_same : (r s : Rule) → rule_rank r ≡ rule_rank s → r ≡ s
-rule_rank_same r s e = sym (rule_of r) ∙ ap rule_of_lem e ∙ rule_of s
 
 -- ---- texts
 pub text_same : (s t : List ℕ) → same_text s t ≡ true → s ≡ t

@@ -8,7 +8,6 @@
 -- HeadingLaws: the test of two headings, or two texts, says that they are one
 --   heading_same, heading_self, heading_on, heading_off, heading_symmetric, heading_transitive, heading_like
 --   text-same, text_self, text_on, text_off
---   severity_rank_same, rule_rank_same      no two share a rank
 -- SumLaws: sum-same, sum_add, sum_zero, sum_front, count_sum, count_alike    sums and counts over the numbers below n
 -- AlikeLaws: the faults of one line
 --   at-before, at-last, alike_append, total_append, faces_append            one list after another

@@ -10,14 +10,13 @@ use borrow.Author.Tests.{ltb-true, lt-ltb}
 use Rattle.fault_row.specs.declared.fault.Rule.{Rule}
 use Rattle.fault_row.specs.Names.{severity_rank, rule_rank, rule_name, bytes_before}
 use Rattle.fault_row.specs.Fault.{Heading, Fault}
-use Rattle.fault_row.proofs.NameLaws.{names_by_bytes}
+use Rattle.fault_row.proofs.NameLaws.{severity_rank_same, rule_rank_same, names_by_bytes}
 use Rattle.fault_lines.specs.Member.{In}
 use Rattle.fault_lines.specs.Ids.{Once}
 use Rattle.fault_lines.specs.Line.{Line, alike, first, total, all_faces}
 use Rattle.fault_lines.specs.Listed.{Before, Listed}
 use Rattle.fault_lines.proofs.MemberLaws.{same_list}
 use Rattle.fault_lines.proofs.IdLaws.{once_only}
-use Rattle.fault_lines.proofs.HeadingLaws.{severity_rank_same, rule_rank_same}
 use Rattle.fault_lines.proofs.AlikeLaws.{alike_in}
 
 -- ---- the order of lines, in numbers

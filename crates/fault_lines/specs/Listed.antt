@@ -1,7 +1,7 @@
 -- What the lines of a report are, in words that name no way to find them: demand 3. Definitions only.
-use Rattle.std.specs.Prelude.{◌≡◌, true, List, [], ◌∷◌, ◌⊎◌, ℕ, ◌<◌, ◌≤◌, length}
+use Rattle.std.specs.Prelude.{◌≡◌, true, List, [], ◌∷◌, ◌⊎◌, ◌<◌, ◌≤◌, length}
 use Rattle.fault_row.specs.Names.{severity_rank, rule_name, bytes_before}
-use Rattle.fault_row.specs.Fault.{Heading, Fault}
+use Rattle.fault_row.specs.Fault.{Fault}
 use Rattle.fault_lines.specs.Member.{In, Ordered}
 use Rattle.fault_lines.specs.Ids.{Once}
 use Rattle.fault_lines.specs.Line.{Line, alike, first, total, all_faces}

@@ -1,5 +1,5 @@
 -- Laws of the four cells of a fault, as they are stored.
-use mathlib.Core.Path.{◌≡◌, ◌∙◌}
+use mathlib.Core.Path.{◌≡◌, ap, ◌∙◌}
 use mathlib.Core.List.{List}
 use mathlib.Core.Logic.{◌⊎◌, inl, inr}
 use Prim.Native.Nat.{ℕ, ◌+◌, ◌*◌, ◌≤◌, ◌<◌}
@@ -70,11 +70,13 @@ opened_by l i hash lead room = record {
 }
 
 pub added_by : (l : List ℕ) (lead count : ℕ) → 4 * lead + 4 ≤ length l
-    → Added l lead count (set (set l (4 * lead + 2) (get_or l (4 * lead + 2) 0 + count)) (4 * lead + 3) (get_or l (4 * lead + 3) 0 + 1))
+    → Added l lead count (set (set l (4 * lead + 2) (get_or l (4 * lead + 2) 0 + count)) (4 * lead + 3) (get_or (set l (4 * lead + 2) (get_or l (4 * lead + 2) 0 + count)) (4 * lead + 3) 0 + 1))
 added_by l lead count room =
     record {
       total_is = get_or-set_other m (4 * lead + 3) (4 * lead + 2) y 0 (λ e. omega (arith, e)) ∙ get_or-set_same l (4 * lead + 2) x 0 (omega arith);
-      members_is = get_or-set_same m (4 * lead + 3) y 0 (omega (arith, long1));
+      members_is =
+          get_or-set_same m (4 * lead + 3) y 0 (omega (arith, long1))
+          ∙ ap (λ (n : ℕ). n + 1) (get_or-set_other l (4 * lead + 2) (4 * lead + 3) x 0 (λ e. omega (arith, e)));
       others = λ k h. get_or-set_other m (4 * lead + 3) k y 0 (λ e. off k 3 (omega arith) (omega arith) h e)
           ∙ get_or-set_other l (4 * lead + 2) k x 0 (λ e. off k 2 (omega arith) (omega arith) h e);
       long = length-set m (4 * lead + 3) y ∙ long1;
@@ -83,11 +85,11 @@ added_by l lead count room =
     x : ℕ
     x = get_or l (4 * lead + 2) 0 + count
 
-    y : ℕ
-    y = get_or l (4 * lead + 3) 0 + 1
-
     m : List ℕ
     m = set l (4 * lead + 2) x
+
+    y : ℕ
+    y = get_or m (4 * lead + 3) 0 + 1
 
     long1 : length m ≡ length l
     long1 = length-set l (4 * lead + 2) x

@@ -5,7 +5,7 @@
 --   rows_less                               fewer rows
 --   lead_first, count_total, members_length the lowest fault, the count and how many faults a line has, as the lines of faults have them
 -- TextLaws: a text in a buffer of its own, and headings whose ranks are known
---   text_short, written, front_more, front_off, row-count, row_severity_lt, rank-is, other_rank, by_text
+--   text_short, written, text_compared, row-count, row_severity_lt, rank-is, other_rank, by_text
 --   row_severity                            the severity that a flaw's row keeps. Other crates cite it
 -- HashLaws: hash_start, hash_step, hash_end the steps of the loop; other_hash: other hashes, other headings
 -- LeadLaws: the lowest fault of a line, and what its faults add up to

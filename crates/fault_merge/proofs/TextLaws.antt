@@ -1,13 +1,13 @@
 -- Laws of texts in buffers of their own, and of headings whose ranks are known.
 use mathlib.Core.Path.{◌≡◌, refl, sym, ap, ap₂, ◌∙◌, subst}
 use mathlib.Core.Bool.{Bool, true, false, ◌&&◌}
-use mathlib.Core.List.{List}
+use mathlib.Core.List.{List, [], ◌∷◌}
 use Prim.Native.Nat.{ℕ, ◌+◌, ◌*◌, ◌≤◌, ◌<◌}
 use native.Mathlib.Omega.{arith}
-use native.Mathlib.Numerals.{add-one}
-use lib.ListN.{length, take, get_or}
-use lib.Seq.{take-suc, get_or-take}
+use lib.ListN.{length, take}
+use lib.Dec.{eqb}
 use borrow.Author.Tests.{eq-eqb}
+use Rattle.std.specs.Cmp.Lexicographic.{pointwise}
 use Rattle.num_text.specs.Put.{Put}
 use Rattle.num_text.proofs.PutLaws.{put_measures_lem, put_taken}
 use Rattle.file_part.specs.Part.{Part, part_of}
@@ -20,7 +20,7 @@ use Rattle.fault_row.specs.Names.{severity_rank, rule_rank}
 use Rattle.fault_row.specs.Flaw.{row_of}
 use Rattle.fault_row.proofs.NameLaws.{severity_rank_lt, rule_rank_lt}
 use Rattle.fault_lines.specs.Line.{same_text, same_heading_of}
-use Rattle.fault_lines.proofs.HeadingLaws.{text_off, heading_off}
+use Rattle.fault_lines.proofs.HeadingLaws.{heading_off}
 use Rattle.fault_text.specs.Told.{told, text_of}
 use Rattle.fault_text.specs.Good.{Good}
 use Rattle.fault_text.proofs.LengthLaws.{checked_short}
@@ -38,12 +38,13 @@ written s f h ok {d} {e} {k} l p =
     let n : k ≡ length (text_of (part_of s) f) = omega (arith, m) in
     (n, omega (arith, n, short), ap (λ (i : ℕ). take i e) n ∙ put_taken (text_of (part_of s) f) p (omega (arith, short, l)))
 
--- ---- the fronts of two buffers
-pub front_more : (a b : List ℕ) (k : ℕ) → k < length a → k < length b → take k a ≡ take k b → get_or a k 0 ≡ get_or b k 0 → take (k + 1) a ≡ take (k + 1) b
-front_more a b k p q e f = rw (add-one, take-suc a k 0 p, take-suc b k 0 q) (cc)
-
-pub front_off : (a b : List ℕ) (n k : ℕ) → k < n → (get_or a k 0 ≡ get_or b k 0 → ⊥) → same_text (take n a) (take n b) ≡ false
-front_off a b n k h f = text_off _ _ (λ e. f (sym (get_or-take n a k 0 h) ∙ ap (λ (l : List ℕ). get_or l k 0) e ∙ get_or-take n b k 0 h))
+-- ---- texts, as slices are compared
+pub text_compared : (s t : List ℕ) → pointwise eqb s t ≡ same_text s t
+unfolding same_text
+text_compared [] [] = refl
+text_compared [] (b ∷ t) = refl
+text_compared (a ∷ s) [] = refl
+text_compared (a ∷ s) (b ∷ t) = ap (λ (r : Bool). eqb a b && r) (text_compared s t)
 
 -- ---- ranks
 -- a row's severity is the rank of the severity that its flaw is told with
@@ -133,11 +134,11 @@ low_severity (EnclosedHollowSls p x) = omega arith
 pub row_severity_lt : (f : Flaw) (w : FaultRow) → w ≡ row_of f → w.severity < 3
 row_severity_lt f w e = subst (λ (x : FaultRow). x.severity < 3) (sym e) (low_severity f)
 
-pub rank_is : (t : Part) (f : Flaw) (w : FaultRow) (n k : ℕ) (r : Rule) → w ≡ row_of f → n ≡ w.severity → r ≡ (told t f).heading.rule → k ≡ rule_rank r →
-    n * 18 + k ≡ rank_of (told t f).heading
+pub rank_is : (t : Part) (f : Flaw) (w : FaultRow) (k : ℕ) (r : Rule) → w ≡ row_of f → r ≡ (told t f).heading.rule → k ≡ rule_rank r →
+    w.severity * 18 + k ≡ rank_of (told t f).heading
 unfolding rank_of
-rank_is t f w n k r e en er ek =
-    ap₂ (λ (a b : ℕ). a * 18 + b) (en ∙ ap (λ (x : FaultRow). x.severity) e ∙ row_severity t f) (ek ∙ ap rule_rank er)
+rank_is t f w k r e er ek =
+    ap₂ (λ (a b : ℕ). a * 18 + b) (ap (λ (x : FaultRow). x.severity) e ∙ row_severity t f) (ek ∙ ap rule_rank er)
 
 -- one number is two, each in its range
 apart : (a b c d : ℕ) → b < 18 → d < 18 → a * 18 + b ≡ c * 18 + d → (a ≡ c) × (b ≡ d)

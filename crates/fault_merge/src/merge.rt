@@ -1,6 +1,6 @@
 // Which faults share a line. The work slice has four cells for each fault: a hash of its text and the lowest fault of its line, and at that fault the
 // line's count and how many faults it has.
-ghost use Rattle.std.specs.Prelude.{◌≡◌, ◌+◌, ◌*◌, ◌≤◌, ◌<◌, length, get_or};
+ghost use Rattle.std.specs.Prelude.{◌≡◌, IfSome, ◌+◌, ◌*◌, ◌≤◌, ◌<◌, length, get_or};
 ghost use Rattle.fault_lines.specs.Line.{same_heading_of};
 ghost use Rattle.file_part.specs.Part.{part_of};
 ghost use Rattle.fault_row.specs.Row.{row_at_of};
@@ -32,10 +32,8 @@ fn is_same(
     requires hashes_2 { hash ≡ hash_of (heading_at (part_of file.now) cells.now numbers.now i).text }
     ensures { result ≡ same_heading_of (heading_at (part_of file.now) cells.now numbers.now j) (heading_at (part_of file.now) cells.now numbers.now i) }
 {
-    if work[4 * j] != hash {
-        return false;
-    }
-    same_heading(file, flaw_at(cells, numbers, j), flaw_at(cells, numbers, i))
+    work[4 * j] == hash
+        && same_heading(file, flaw_at(cells, numbers, j), flaw_at(cells, numbers, i))
 }
 
 // The lowest fault on the line of fault i.
@@ -46,12 +44,10 @@ fn lead_of(work: &[u32], file: &[u8], cells: &[u32], numbers: &[f64], i: usize, 
     requires hashes_2 { hash ≡ hash_of (heading_at (part_of file.now) cells.now numbers.now i).text }
     ensures { result ≡ lead_in (part_of file.now) cells.now numbers.now i }
 {
-    let mut j: usize = 0;
-    while j < i {
+    for j in 0..i {
         if is_same(work, file, cells, numbers, j, i, hash) {
             return j;
         }
-        j += 1;
     }
     i
 }
@@ -76,10 +72,8 @@ fn add(work: &mut [u32], lead: usize, count: u32)
     ensures { Added work.old lead count work.new }
 {
     let at = 4 * lead;
-    let total = work[at + 2] + count;
-    let faults = work[at + 3] + 1;
-    work[at + 2] = total;
-    work[at + 3] = faults;
+    work[at + 2] += count;
+    work[at + 3] += 1;
 }
 
 // The hash of a fault's text, and the lowest fault of its line.
@@ -96,24 +90,24 @@ fn place_of(
     cells: &[u32],
     numbers: &[f64],
     i: usize,
-    known: usize,
+    known: Option<usize>,
 ) -> Place
     requires rows_1 { Rows file.now cells.now numbers.now (i + 1) }
     requires rows_2 { 4 * i + 4 ≤ length work.now }
     requires rows_3 { Merged (part_of file.now) cells.now numbers.now work.now i }
-    requires same_row { known < i → SameRow (row_at_of cells.now numbers.now known) (row_at_of cells.now numbers.now i) }
+    requires same_row { IfSome known (λ j. (j < i) × SameRow (row_at_of cells.now numbers.now j) (row_at_of cells.now numbers.now i)) }
     ensures fact_1 { result.hash ≡ hash_of (heading_at (part_of file.now) cells.now numbers.now i).text }
     ensures fact_2 { result.lead ≡ lead_in (part_of file.now) cells.now numbers.now i }
 {
-    if known < i {
+    if let Some(j) = known {
         return Place {
-            hash: work[4 * known],
-            lead: cell(work, 4 * known + 1),
+            hash: work[4 * j],
+            lead: cell(work, 4 * j + 1),
         };
     }
     let hash = text_hash(file, flaw_at(cells, numbers, i));
     Place {
-        hash: hash,
+        hash,
         lead: lead_of(work, file, cells, numbers, i, hash),
     }
 }
@@ -146,9 +140,7 @@ pub fn merge(work: &mut [u32], file: &[u8], cells: &[u32], numbers: &[f64], n: u
     ensures fact_2 { length work.new ≡ length work.old }
 {
     let end = 4 * n;
-    let mut i: usize = 0;
-    while i < n {
+    for i in 0..n {
         join(work, file, cells, numbers, i, end);
-        i += 1;
     }
 }

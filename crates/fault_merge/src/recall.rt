@@ -1,16 +1,16 @@
 // Faults whose rows agree have one text, so that the second one's need not be written. A cell past those of the faults has the last fault that fell
 // on it; what stands there is only a guess, and the rows are compared.
-ghost use Rattle.std.specs.Prelude.{◌≡◌, true, ◌+◌, ◌*◌, ◌≤◌, ◌<◌, length};
+ghost use Rattle.std.specs.Prelude.{◌≡◌, IfSome, true, ◌+◌, ◌*◌, ◌≤◌, ◌<◌, length};
 ghost use Rattle.fault_row.specs.Row.{row_at_of};
 ghost use Rattle.fault_row.specs.Flaw.{not_closed};
 ghost use Rattle.fault_merge.specs.Work.{Front, SameRow};
 
 use fault_row::flaw::NOT_CLOSED;
 use fault_row::row::{FaultRow, row_at};
-use list_cells::cell;
 use num_real::bits::to_bits;
 
 // Whether two numbers have the same bits.
+// Not `==`: numbers are told by their bits.
 fn same_bits(x: f64, y: f64) -> bool
     ensures { result ≡ true → x ≡ y }
 {
@@ -21,19 +21,19 @@ fn same_bits(x: f64, y: f64) -> bool
 fn same_edges(r: FaultRow, s: FaultRow) -> bool
     ensures { result ≡ true → r.kind ≡ not_closed → r.a ≡ s.a }
 {
-    if r.kind != NOT_CLOSED {
-        return true;
-    }
-    r.a == s.a
+    r.kind != NOT_CLOSED || r.a == s.a
 }
 
 // Whether two rows agree in all that severity, rule and text are made from.
 fn same_row(r: FaultRow, s: FaultRow) -> bool
     ensures { result ≡ true → SameRow r s }
 {
-    let edges = same_edges(r, s);
-    let numbers = same_bits(r.x, s.x) & same_bits(r.y, s.y) & same_bits(r.z, s.z);
-    (r.kind == s.kind) & (r.severity == s.severity) & edges & numbers
+    r.kind == s.kind
+        && r.severity == s.severity
+        && same_edges(r, s)
+        && same_bits(r.x, s.x)
+        && same_bits(r.y, s.y)
+        && same_bits(r.z, s.z)
 }
 
 // A mix of a number's bits: their remainder by a prime.
@@ -44,6 +44,7 @@ fn mixed(x: f64) -> u64
 }
 
 // The cell from `end` to before n in which a fault with this row may stand, or n where there is none.
+// A number, not an Option: a place past the end is what the tests of those who use it turn back.
 pub(crate) fn slot_of(row: FaultRow, end: usize, n: usize) -> usize
     requires { end ≤ n }
     ensures { end ≤ result }
@@ -55,23 +56,23 @@ pub(crate) fn slot_of(row: FaultRow, end: usize, n: usize) -> usize
     end + ((mixed(row.x) + mixed(row.y)) % cells) as usize
 }
 
-// A lower fault whose row is that of fault i, or i.
-pub(crate) fn recalled(work: &[u32], cells: &[u32], numbers: &[f64], slot: usize, i: usize) -> usize
+// A lower fault whose row is that of fault i, where one is known.
+pub(crate) fn recalled(
+    work: &[u32],
+    cells: &[u32],
+    numbers: &[f64],
+    slot: usize,
+    i: usize,
+) -> Option<usize>
     requires fact_1 { 6 * i + 6 ≤ length cells.now }
     requires fact_2 { 3 * i + 3 ≤ length numbers.now }
-    ensures { result < i → SameRow (row_at_of cells.now numbers.now result) (row_at_of cells.now numbers.now i) }
+    ensures { IfSome result (λ j. (j < i) × SameRow (row_at_of cells.now numbers.now j) (row_at_of cells.now numbers.now i)) }
 {
-    if work.len() <= slot {
-        return i;
+    let j = *work.get(slot)? as usize;
+    if j < i && same_row(row_at(cells, numbers, j), row_at(cells, numbers, i)) {
+        return Some(j);
     }
-    let j = cell(work, slot);
-    if i <= j {
-        return i;
-    }
-    if same_row(row_at(cells, numbers, j), row_at(cells, numbers, i)) {
-        return j;
-    }
-    i
+    None
 }
 
 // Fault i is the last that fell on the cell.

@@ -11,24 +11,15 @@ ghost use Rattle.fault_merge.specs.Rows.{heading_of};
 use crate::rule::rank_of;
 use fault_row::flaw::Flaw;
 use fault_text::message::put_message;
+use num_text::text::Text;
 
-// A byte as a wide number.
-fn widened(x: u8) -> u64
-    ensures { result ≡ x }
-{
-    x as u64
-}
-
-// A hash of the first n bytes.
-fn hash(text: &[u8], n: usize) -> u32
-    requires { n ≤ length text.now }
-    ensures { result ≡ hash_of (take n text.now) }
+// A hash of a text.
+fn hash(text: &[u8]) -> u32
+    ensures { result ≡ hash_of text.now }
 {
     let mut h: u64 = 0;
-    let mut i: usize = 0;
-    while i < n {
-        h = (h * 16777619 + widened(text[i])) % 4294967296;
-        i += 1;
+    for x in text {
+        h = (h * 16777619 + *x as u64) % 4294967296;
     }
     h as u32
 }
@@ -39,25 +30,13 @@ pub fn text_hash(file: &[u8], flaw: Flaw) -> u32
     requires fact_2 { Good (part_of file.now) flaw }
     ensures { result ≡ hash_of (text_of (part_of file.now) flaw) }
 {
-    let mut text = [0u8; 512];
-    let n = put_message(&mut text, 0, file, flaw);
-    hash(&text, n)
-}
-
-// Whether the first n bytes agree.
-fn same_front(a: &[u8], b: &[u8], n: usize) -> bool
-    requires fact_1 { n ≤ length a.now }
-    requires fact_2 { n ≤ length b.now }
-    ensures { result ≡ same_text (take n a.now) (take n b.now) }
-{
-    let mut i: usize = 0;
-    while i < n {
-        if a[i] != b[i] {
-            return false;
-        }
-        i += 1;
-    }
-    true
+    let mut bytes = [0u8; 512];
+    let mut text = Text {
+        out: &mut bytes,
+        at: 0,
+    };
+    put_message(&mut text, file, flaw);
+    hash(text.written())
 }
 
 // Whether the texts of two faults agree, byte for byte.
@@ -67,14 +46,19 @@ fn same_text(file: &[u8], r: Flaw, s: Flaw) -> bool
     requires fact_3 { Good (part_of file.now) s }
     ensures { result ≡ same_text (text_of (part_of file.now) r) (text_of (part_of file.now) s) }
 {
-    let mut a = [0u8; 512];
-    let mut b = [0u8; 512];
-    let k = put_message(&mut a, 0, file, r);
-    let l = put_message(&mut b, 0, file, s);
-    if k != l {
-        return false;
-    }
-    same_front(&a, &b, k)
+    let mut first = [0u8; 512];
+    let mut a = Text {
+        out: &mut first,
+        at: 0,
+    };
+    put_message(&mut a, file, r);
+    let mut second = [0u8; 512];
+    let mut b = Text {
+        out: &mut second,
+        at: 0,
+    };
+    put_message(&mut b, file, s);
+    a.written() == b.written()
 }
 
 // Whether two faults agree in severity, rule and text. Severity and rule agree where the ranks do.
@@ -84,8 +68,5 @@ pub fn same_heading(file: &[u8], r: Flaw, s: Flaw) -> bool
     requires fact_3 { Good (part_of file.now) s }
     ensures { result ≡ same_heading_of (heading_of (part_of file.now) r) (heading_of (part_of file.now) s) }
 {
-    if rank_of(r) != rank_of(s) {
-        return false;
-    }
-    same_text(file, r, s)
+    rank_of(r) == rank_of(s) && same_text(file, r, s)
 }

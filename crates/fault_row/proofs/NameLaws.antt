@@ -1,17 +1,20 @@
 -- The ranks of the rules are the byte order of their names, and the ranks of the severities.
-use mathlib.Core.Path.{◌≡◌, refl, sym, ap₂, ◌∙◌}
+use mathlib.Core.Path.{◌≡◌, refl, sym, ap, ap₂, ◌∙◌}
 use mathlib.Core.Bool.{Bool, true, false, not, cond, true≢false}
 use mathlib.Core.List.{List, [], ◌∷◌}
 use Prim.Native.Nat.{ℕ, ◌<◌}
 use native.Mathlib.Omega.{arith}
 use lib.Dec.{ltb}
 use lib.ListN.{get_or}
+use denote.Enum.Declared.{tag_of}
 use Rattle.list_laws.specs.Below.{all_below}
 use Rattle.list_laws.proofs.Below.{all_each}
 use Rattle.fault_row.specs.declared.fault.Severity.{Severity}
 use Rattle.fault_row.specs.declared.fault.Severity.TheVariants.{Error, Warning, Note}
 use Rattle.fault_row.specs.declared.fault.Rule.{Rule}
 use Rattle.fault_row.specs.declared.fault.Rule.TheVariants.{DeepHole, DeepInsideCorner, EnclosedHollow, FewLayers, HoleTooClose, Material, NoMaterial, NotClosed, NotOneThickness, Overhang, SharpInsideCorner, ShortFlange, SmallHole, ThinWall, ThinnerThanALayer, ThinnerThanTheNozzle, TightBend, TightInsideRadius}
+use Rattle.fault_row.specs.contracts.fault.Severity.{the_type as the_severity}
+use Rattle.fault_row.specs.contracts.fault.Rule.{the_type as the_rule}
 use Rattle.fault_row.specs.Names.{severity_rank, severity_of, rule_rank, rule_name, bytes_before}
 
 -- ---- severities
@@ -21,11 +24,22 @@ severity_of_lem Error = refl
 severity_of_lem Warning = refl
 severity_of_lem Note = refl
 
+-- no two share a rank
+pub severity_rank_same : (s t : Severity) → severity_rank s ≡ severity_rank t → s ≡ t
+severity_rank_same s t e = sym (severity_of_lem s) ∙ ap severity_of e ∙ severity_of_lem t
+
 pub severity_rank_lt : (s : Severity) → severity_rank s < 3
 unfolding severity_rank
 severity_rank_lt Error = omega arith
 severity_rank_lt Warning = omega arith
 severity_rank_lt Note = omega arith
+
+-- the number of its case
+pub severity_tag : (s : Severity) → tag_of the_severity s ≡ severity_rank s
+unfolding severity_rank
+severity_tag Error = refl
+severity_tag Warning = refl
+severity_tag Note = refl
 
 -- ---- the rule of a rank
 rules : List Rule
@@ -57,6 +71,10 @@ at_rank ThinnerThanTheNozzle = refl
 at_rank TightBend = refl
 at_rank TightInsideRadius = refl
 
+-- no two share a rank
+pub rule_rank_same : (r s : Rule) → rule_rank r ≡ rule_rank s → r ≡ s
+rule_rank_same r s e = sym (at_rank r) ∙ ap at e ∙ at_rank s
+
 pub rule_rank_lt : (r : Rule) → rule_rank r < 18
 unfolding rule_rank
 rule_rank_lt DeepHole = omega arith
@@ -77,6 +95,28 @@ rule_rank_lt ThinnerThanALayer = omega arith
 rule_rank_lt ThinnerThanTheNozzle = omega arith
 rule_rank_lt TightBend = omega arith
 rule_rank_lt TightInsideRadius = omega arith
+
+-- the number of its case
+pub rule_tag : (r : Rule) → tag_of the_rule r ≡ rule_rank r
+unfolding rule_rank
+rule_tag DeepHole = refl
+rule_tag DeepInsideCorner = refl
+rule_tag EnclosedHollow = refl
+rule_tag FewLayers = refl
+rule_tag HoleTooClose = refl
+rule_tag Material = refl
+rule_tag NoMaterial = refl
+rule_tag NotClosed = refl
+rule_tag NotOneThickness = refl
+rule_tag Overhang = refl
+rule_tag SharpInsideCorner = refl
+rule_tag ShortFlange = refl
+rule_tag SmallHole = refl
+rule_tag ThinWall = refl
+rule_tag ThinnerThanALayer = refl
+rule_tag ThinnerThanTheNozzle = refl
+rule_tag TightBend = refl
+rule_tag TightInsideRadius = refl
 
 -- ---- their names: one test of all pairs
 agree : Bool → Bool → Bool

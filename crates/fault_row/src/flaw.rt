@@ -1,6 +1,6 @@
 // A fault before it is worded: what a rule found, and the row that keeps it.
 ghost use Rattle.std.specs.Prelude.{◌≡◌, ◌+◌, ◌*◌, ◌≤◌, ◌<◌, length};
-ghost use Rattle.fault_row.specs.Names.{severity_rank, severity_of};
+ghost use Rattle.fault_row.specs.Names.{severity_of};
 ghost use Rattle.fault_row.specs.Row.{row_at_of, RowPut};
 ghost use Rattle.fault_row.specs.Row as rows;
 ghost use Rattle.fault_row.specs.Flaw.{row_of, flaw_of};
@@ -63,16 +63,8 @@ pub enum Flaw {
 // The kind whose text is made from a.
 pub const NOT_CLOSED: u32 = 16;
 
-pub fn severity_rank(severity: Severity) -> u32
-    ensures { result ≡ severity_rank severity }
-{
-    match severity {
-        Severity::Error => 0,
-        Severity::Warning => 1,
-        Severity::Note => 2,
-    }
-}
-
+// No TryFrom: the definition has an answer for whatever stands in a row.
+#[tactic(auto, unfolding(crate::specs::Names::severity_of))]
 pub fn severity_of(rank: u32) -> Severity
     ensures { result ≡ severity_of rank }
 {
@@ -88,24 +80,25 @@ fn row(kind: u32, severity: u32, a: u32, b: u32, x: f64, y: f64, z: f64) -> Faul
     ensures { result ≡ rows.row kind severity 1 a b 0 x y z }
 {
     FaultRow {
-        kind: kind,
-        severity: severity,
+        kind,
+        severity,
         count: 1,
-        a: a,
-        b: b,
+        a,
+        b,
         waived: 0,
-        x: x,
-        y: y,
-        z: z,
+        x,
+        y,
+        z,
     }
 }
 
 // The row of a flaw: the one table of what a kind's row holds. 0 is no fault; a new kind takes the next number.
+#[tactic(auto, unfolding(crate::specs::Flaw::row_of))]
 pub fn row_of(flaw: Flaw) -> FaultRow
     ensures { result ≡ row_of flaw }
 {
     match flaw {
-        Flaw::ThinWall(severity, a, b, x) => row(1, severity_rank(severity), a, b, x, 0.0, 0.0),
+        Flaw::ThinWall(severity, a, b, x) => row(1, severity.into(), a, b, x, 0.0, 0.0),
         Flaw::SmallHole(a, d) => row(2, 1, a, 0, d, 0.0, 0.0),
         Flaw::DeepHoleMax(a, ratio, d, length) => row(3, 1, a, 0, ratio, d, length),
         Flaw::DeepHoleStandard(a, ratio) => row(4, 2, a, 0, ratio, 0.0, 0.0),
@@ -124,20 +117,12 @@ pub fn row_of(flaw: Flaw) -> FaultRow
         Flaw::ThinnerThanALayer(a, b, x) => row(17, 0, a, b, x, 0.0, 0.0),
         Flaw::FewLayers(a, b, x, layers) => row(18, 1, a, b, x, layers, 0.0),
         Flaw::ThinnerThanTheNozzle(a, b, x) => row(19, 0, a, b, x, 0.0, 0.0),
-        Flaw::PrintThinWall(severity, a, b, x) => row(
-            20,
-            severity_rank(severity),
-            a,
-            b,
-            x,
-            0.0,
-            0.0,
-        ),
+        Flaw::PrintThinWall(severity, a, b, x) => row(20, severity.into(), a, b, x, 0.0, 0.0),
         Flaw::PrintSmallHole(a, d) => row(21, 1, a, 0, d, 0.0, 0.0),
         Flaw::Overhang(count, area) => FaultRow {
             kind: 22,
             severity: 1,
-            count: count,
+            count,
             a: 0,
             b: 0,
             waived: 0,
@@ -151,6 +136,7 @@ pub fn row_of(flaw: Flaw) -> FaultRow
 }
 
 // The flaw that a row keeps; for a number that is no kind's, as for 16.
+#[tactic(auto, unfolding(crate::specs::Flaw::flaw_of))]
 pub fn flaw_of(row: FaultRow) -> Flaw
     ensures { result ≡ flaw_of row }
 {
@@ -189,6 +175,7 @@ pub fn flaw_of(row: FaultRow) -> Flaw
 }
 
 // Puts the row of a flaw as row k, as `put_row` does.
+#[tactic(auto, using(crate::proofs::RowLaws::row_put_same))]
 pub fn put_flaw(cells: &mut [u32], numbers: &mut [f64], k: usize, flaw: Flaw) -> usize
     requires { k < 4294967296 }
     ensures { RowPut k (row_of flaw) cells.old cells.new numbers.old numbers.new result }

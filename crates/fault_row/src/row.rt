@@ -1,5 +1,5 @@
 // Fault rows on plain number slices: six u32 cells and three f64 numbers each.
-ghost use Rattle.std.specs.Prelude.{◌≡◌, ◌+◌, ◌*◌, ◌≤◌, ◌<◌, min, length};
+ghost use Rattle.std.specs.Prelude.{◌≡◌, ◌+◌, ◌*◌, ◌≤◌, ◌<◌, length};
 ghost use Rattle.fault_row.specs.Row.{row_at_of, row_room, RowPut};
 
 // What is kept of a fault, so that its text and its faces follow from the row and the part. A row of zeros is no fault. 48 bytes, for C too.
@@ -25,20 +25,12 @@ pub struct FaultRow {
 // More faults turn a part back (refusal 11).
 const MOST: usize = 2048;
 
-fn lesser(a: usize, b: usize) -> usize
-    ensures { result ≡ min a b }
-{
-    if a < b {
-        return a;
-    }
-    b
-}
-
 // How many rows are lent: as many as both slices hold, and no more than count.
+#[tactic(auto, unfolding(crate::specs::Row::row_room))]
 pub fn rows_lent(cells: usize, numbers: usize) -> usize
     ensures { result ≡ row_room cells numbers }
 {
-    lesser(MOST, lesser(cells / 6, numbers / 3))
+    MOST.min((cells / 6).min(numbers / 3))
 }
 
 // Puts row k where it is lent; else it is only counted. The number of rows then, so that faults past the rows lent are known too.
@@ -64,6 +56,7 @@ pub fn put_row(cells: &mut [u32], numbers: &mut [f64], k: usize, row: FaultRow) 
 }
 
 // Row k, as it stands in the slices.
+#[tactic(auto, unfolding(crate::specs::Row::row_at_of))]
 pub fn row_at(cells: &[u32], numbers: &[f64], k: usize) -> FaultRow
     requires fact_1 { 6 * k + 6 ≤ length cells.now }
     requires fact_2 { 3 * k + 3 ≤ length numbers.now }

@@ -2,53 +2,48 @@
 ghost use Rattle.std.specs.Prelude.{◌≡◌};
 ghost use Rattle.fault_row.specs.Summary.{no_summary, sheet_summary, print_summary};
 
-// The thickness of a sheet and its bends, and the height of a print, each with whether there is one.
+// The thickness of a sheet and its bends, and the height of a print, where there is one.
 #[derive(Clone, Copy)]
 pub struct Summary {
-    pub has_thickness: bool,
-    pub thickness: f64,
+    pub thickness: Option<f64>,
     pub bends: usize,
-    pub has_height: bool,
-    pub height: f64,
+    pub height: Option<f64>,
 }
 
 impl Summary {
     // Nothing is measured.
+    #[tactic(auto, unfolding(crate::specs::Summary::no_summary))]
     pub fn none() -> Summary
         ensures { result ≡ no_summary }
     {
         Summary {
-            has_thickness: false,
-            thickness: 0.0,
+            thickness: None,
             bends: 0,
-            has_height: false,
-            height: 0.0,
+            height: None,
         }
     }
 
     // A sheet.
+    #[tactic(auto, unfolding(crate::specs::Summary::sheet_summary))]
     pub fn sheet(thickness: f64, bends: usize) -> Summary
         ensures { result ≡ sheet_summary thickness bends }
     {
         Summary {
-            has_thickness: true,
-            thickness: thickness,
-            bends: bends,
-            has_height: false,
-            height: 0.0,
+            thickness: Some(thickness),
+            bends,
+            height: None,
         }
     }
 
     // A print.
+    #[tactic(auto, unfolding(crate::specs::Summary::print_summary))]
     pub fn print(height: f64) -> Summary
         ensures { result ≡ print_summary height }
     {
         Summary {
-            has_thickness: false,
-            thickness: 0.0,
+            thickness: None,
             bends: 0,
-            has_height: true,
-            height: height,
+            height: Some(height),
         }
     }
 }

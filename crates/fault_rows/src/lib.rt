@@ -13,10 +13,8 @@ pub fn put_rows(rows: &mut [FaultRow], cells: &[u32], numbers: &[f64], n: usize)
     requires { (n ≤ length rows.old) × (n ≤ row_room (length cells.now) (length numbers.now)) }
     ensures { rows.new ≡ painted (row_at_of cells.now numbers.now) n rows.old }
 {
-    let mut i = 0;
-    while i < n {
+    for i in 0..n {
         rows[i] = row_at(cells, numbers, i);
-        i += 1;
     }
 }
 
@@ -25,10 +23,8 @@ pub fn take_rows(rows: &[FaultRow], cells: &mut [u32], numbers: &mut [f64], n: u
     requires { (n ≤ length rows.now) × (n ≤ row_room (length cells.old) (length numbers.old)) }
     ensures { Taken rows.now n cells.old cells.new numbers.old numbers.new }
 {
-    let mut i = 0;
-    while i < n {
+    for i in 0..n {
         put_row(cells, numbers, i, rows[i]);
-        i += 1;
     }
 }
 
@@ -37,22 +33,7 @@ pub fn wipe_rows(rows: &mut [FaultRow], from: usize)
     requires { from ≤ length rows.old }
     ensures { rows.new ≡ wiped from rows.old }
 {
-    let none = FaultRow {
-        kind: 0,
-        severity: 0,
-        count: 0,
-        a: 0,
-        b: 0,
-        waived: 0,
-        x: 0.0,
-        y: 0.0,
-        z: 0.0,
-    };
-    let mut i = from;
-    while i < rows.len() {
-        rows[i] = none;
-        i += 1;
-    }
+    rows[from..].fill(zero_row());
 }
 
 // No fault.

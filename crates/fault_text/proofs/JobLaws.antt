@@ -41,13 +41,13 @@ pub job_is : (s : List ℕ) (at : ℕ) (j : Job) → at ≡ place s → j ≡ jo
 job_is s at j e q = q ∙ ap (job_at s) e ∙ sym (part_job s)
 
 -- ---- the thinnest wall
-module _ (s : List ℕ) (at : ℕ) (j : Job) (e : at ≡ place s) (q : j ≡ job_at s at) where
+module _ (s : List ℕ) (j : Job) (q : j ≡ (part_of s).job) where
   abbrev wall : Job → Float
   wall k = cond (k.has_material && lt zero k.material.min_wall) k.material.min_wall default_min_wall
 
   is_wall : wall j ≡ min_wall_of (part_of s)
   unfolding min_wall_of
-  is_wall = ap wall (job_is s at j e q)
+  is_wall = ap wall q
 
   pub wall_of_material : j.has_material ≡ true → lt zero j.material.min_wall ≡ true → j.material.min_wall ≡ min_wall_of (part_of s)
   wall_of_material h w = sym (ap₂ (λ (a b : Bool). cond (a && b) j.material.min_wall default_min_wall) h w) ∙ is_wall
@@ -58,7 +58,8 @@ module _ (s : List ℕ) (at : ℕ) (j : Job) (e : at ≡ place s) (q : j ≡ job
   pub wall_no_material : j.has_material ≡ false → default_min_wall ≡ min_wall_of (part_of s)
   wall_no_material h = sym (ap (λ (a : Bool). cond (a && lt zero j.material.min_wall) j.material.min_wall default_min_wall) h) ∙ is_wall
 
-  -- ---- the name
+-- ---- the name
+module _ (s : List ℕ) (at : ℕ) (j : Job) (e : at ≡ place s) (q : j ≡ job_at s at) where
   name_of_material : (other : List ℕ) → j.has_material ≡ true → take j.material.name_length (drop (at + 88) s) ≡ name_or (part_of s) other
   unfolding name_or job_at material_at name_at
   name_of_material other h =

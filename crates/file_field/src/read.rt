@@ -1,25 +1,15 @@
 // Numbers and vectors read from a part file's bytes, little-endian.
-ghost use Rattle.std.specs.Prelude.{◌≡◌, ◌+◌, ◌≤◌, ◌<◌, length};
+ghost use Rattle.std.specs.Prelude.{◌≡◌, ◌+◌, ◌≤◌, length};
 ghost use Rattle.file_field.specs.Field.{u32_at, u64_at, f64_at, vec_at_of};
 
 use math::Vec3;
-
-// A byte as a u32; its contract keeps the bound at hand.
-fn wide(b: u8) -> u32
-    ensures { (result ≡ b) × (result < 256) }
-{
-    b as u32
-}
 
 // The u32 of the four bytes at `at`.
 pub fn u32_at(file: &[u8], at: usize) -> u32
     requires { at + 4 ≤ length file.now }
     ensures { result ≡ u32_at file.now at }
 {
-    wide(file[at])
-        + wide(file[at + 1]) * 0x100
-        + wide(file[at + 2]) * 0x1_0000
-        + wide(file[at + 3]) * 0x100_0000
+    u32::from_le_bytes([file[at], file[at + 1], file[at + 2], file[at + 3]])
 }
 
 // The u64 of the eight bytes at `at`.
@@ -27,7 +17,7 @@ pub fn u64_at(file: &[u8], at: usize) -> u64
     requires { at + 8 ≤ length file.now }
     ensures { result ≡ u64_at file.now at }
 {
-    u32_at(file, at) as u64 + u32_at(file, at + 4) as u64 * 0x1_0000_0000
+    u64::from(u32_at(file, at)) + u64::from(u32_at(file, at + 4)) * 0x1_0000_0000
 }
 
 // The f64 of the eight bytes at `at`.

@@ -38,12 +38,10 @@ pub fn zero_words(file: &[u8], at: usize, n: usize) -> bool
     requires { at + 8 * n ≤ length file.now }
     ensures { result ≡ zero_words file.now at n }
 {
-    let mut k: usize = 0;
-    while k < n {
+    for k in 0..n {
         if u64_at(file, at + 8 * k) != 0 {
             return false;
         }
-        k += 1;
     }
     true
 }

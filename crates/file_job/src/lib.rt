@@ -12,7 +12,7 @@ use file_field::read::{f64_at, u32_at, vec_at};
 pub use file_field;
 pub use file_field::math;
 
-#[derive(Clone, Copy)]
+#[derive(Clone, Copy, Debug, PartialEq, Eq)]
 pub enum Process {
     CncMachining,
     SheetMetal,
@@ -24,13 +24,14 @@ pub enum Process {
     Sls,
 }
 
-#[derive(Clone, Copy)]
+#[derive(Clone, Copy, Debug, PartialEq, Eq)]
 pub enum MaterialClass {
     Metal,
     Plastic,
 }
 
 // The fields of material.rs that the check uses. The name's bytes stay in the file.
+// A flag stands beside its value: what is asked of a good job (GoodMaterial) speaks of the value that an unset field has.
 #[derive(Clone, Copy)]
 pub struct Material {
     pub class: MaterialClass,
@@ -43,6 +44,7 @@ pub struct Material {
 }
 
 // The printer that the 3D printing checks are made for.
+// A flag stands beside its value: what is asked of a good job (GoodSettings) speaks of the value that an unset field has.
 #[derive(Clone, Copy)]
 pub struct PrintSettings {
     pub up: Vec3,
@@ -58,6 +60,7 @@ pub struct PrintSettings {
     pub overhang: u32,
 }
 
+// The material has its values where there is none too: GoodMaterial speaks of them.
 #[derive(Clone, Copy)]
 pub struct Job {
     pub process: Process,
@@ -84,6 +87,7 @@ pub fn has(flags: u32, flag: u32) -> bool
 
 impl Process {
     // The process with a number of the part file; the last for any number over 4.
+    // No TryFrom: the definition has an answer for every number.
     pub fn from_number(n: u32) -> Process
         ensures { result ≡ process_of n }
     {
@@ -100,15 +104,13 @@ impl Process {
     pub fn is_printing(self) -> bool
         ensures { result ≡ is_printing self }
     {
-        match self {
-            Process::CncMachining | Process::SheetMetal => false,
-            Process::Fdm | Process::Sla | Process::Sls => true,
-        }
+        matches!(self, Process::Fdm | Process::Sla | Process::Sls)
     }
 }
 
 impl MaterialClass {
     // The class with a number of the part file; the last for any number over 1.
+    // No TryFrom: the definition has an answer for every number.
     pub fn from_number(n: u32) -> MaterialClass
         ensures { result ≡ class_of n }
     {

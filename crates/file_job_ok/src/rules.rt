@@ -76,12 +76,10 @@ fn name_is_good(file: &[u8], at: usize) -> bool
     ensures { result ≡ name_good file.now at }
 {
     let length = u32_at(file, at + 76);
-    let mut k: usize = 0;
-    while k < 40 {
+    for k in 0..40 {
         if !name_byte_is_good(k, length, file[at + 88 + k]) {
             return false;
         }
-        k += 1;
     }
     true
 }

@@ -8,7 +8,10 @@
 --   readable_whole          the runs fill the vertex block
 --   readable_surface        the numbers of a surface are in their ranges
 --   readable_entry_room, readable_vertex_room, readable_index    entries, vertices and indexes lie inside the file
--- RefusalLaws: earlier_first, earlier_is, earlier_none, passed      refusal 10 after the earlier ones
+-- RefusalLaws: not_none, none_refused      0 is the number of no refusal
+--   answered                no refusal is an answer
+--   passed_up               what `?` returns
+--   earlier_first, earlier_is, earlier_none, passed      refusal 10 after the earlier ones
 -- GoodLaws, PolygonLaws, VerdictLaws: the steps of the functions here
 pub mod GoodLaws
 pub mod PolygonLaws

@@ -1,5 +1,5 @@
 -- What acceptance says: of a file that none of refusals 1 to 7 turns back. Later layers use these laws and never look at the tests again.
-use mathlib.Core.Path.{◌≡◌, refl, ap}
+use mathlib.Core.Path.{◌≡◌, refl}
 use mathlib.Core.Bool.{Bool, true, false, not, ◌&&◌, cond}
 use mathlib.Core.List.{List}
 use Prim.Native.Nat.{ℕ, ◌+◌, ◌*◌, ◌≤◌, ◌<◌}
@@ -17,23 +17,23 @@ use Rattle.file_part.specs.file_field.proofs.FieldLaws.{point_within}
 use Rattle.file_job_ok.specs.Rules.{job_good}
 use Rattle.file_job_ok.specs.Good.{GoodJob}
 use Rattle.file_job_ok.proofs.JobLaws.{good_job}
-use Rattle.file_ok.specs.declared.verdict.Verdict.{Verdict}
-use Rattle.file_ok.specs.declared.verdict.Verdict.TheVariants.{Accepted, TooShort, WrongEdition, TooLarge, WrongLength, BadJob, BadVertex, BadPolygon}
+use Rattle.std.specs.Prelude.{⊤, Result, Ok, Err}
+use Rattle.refusal.specs.declared.Refusal.{Refusal}
+use Rattle.refusal.specs.declared.Refusal.TheVariants.{TooShort, WrongEdition, TooLarge, WrongLength, BadJob, BadVertex, BadPolygon}
 use Rattle.file_part.specs.Layout.{edition, vertex_count_of, polygon_count_of, back, entry_at, size_of}
 use Rattle.file_part.specs.Part.{surface_at, first_at, count_at_of}
 use Rattle.file_ok.specs.Rules.{vertex_good, vertices_good, run_start, run_good, entry_good, polygon_good, polygons_good}
-use Rattle.file_ok.specs.Verdict.{number, too_large, fitted, content_verdict, verdict_of}
+use Rattle.file_ok.specs.Verdict.{too_large, fitted, content_verdict, verdict_of}
 use Rattle.file_ok.specs.Work.{Readable}
 use Rattle.file_ok.specs.Readable.{Run, SurfaceWithin}
 use Rattle.file_ok.proofs.PolygonLaws.{entry_run, entry_surface, run_inside}
 use Rattle.file_ok.proofs.GoodLaws.{surface_within}
 
 -- ---- the tests that an accepted file has passed
--- a refusal's number is not 0, so a verdict of none was not that refusal
-past : (t : Bool) (x r : Verdict) → (number x ≡ 0 → ⊥) → cond t x r ≡ Accepted → (t ≡ false) × (r ≡ Accepted)
-unfolding number
-past true x r other h = absurd (other (ap number h))
-past false x r other h = (refl, h)
+-- a verdict of none was not that refusal
+past : (t : Bool) (x : Refusal) (r : Result ⊤ Refusal) → cond t (Err x) r ≡ Ok tt → (t ≡ false) × (r ≡ Ok tt)
+past true x r h = (cc)
+past false x r h = (refl, h)
 
 pub record Tests (s : List ℕ) : Type 0 where
   pub long : ltb (length s) 144 ≡ false
@@ -44,15 +44,15 @@ pub record Tests (s : List ℕ) : Type 0 where
   pub polygons : polygons_good s (vertex_count_of s) (polygon_count_of s) ≡ true
 
 pub readable_tests : (s : List ℕ) → Readable s → Tests s
-unfolding Readable verdict_of content_verdict number
+unfolding Readable verdict_of content_verdict
 readable_tests s h =
-    let a = past (ltb (length s) 144) TooShort _ (λ e. omega (arith, e)) h in
-    let b = past (not (eqb (edition s) 1)) WrongEdition _ (λ e. omega (arith, e)) a.1 in
-    let c = past (too_large (vertex_count_of s) (polygon_count_of s)) TooLarge _ (λ e. omega (arith, e)) b.1 in
-    let d = past (not (fitted s (vertex_count_of s) (polygon_count_of s))) WrongLength _ (λ e. omega (arith, e)) c.1 in
-    let j = past (not (job_good s (entry_at (vertex_count_of s) (polygon_count_of s)))) BadJob _ (λ e. omega (arith, e)) d.1 in
-    let v = past (not (vertices_good s (vertex_count_of s))) BadVertex _ (λ e. omega (arith, e)) j.1 in
-    let p = past (not (polygons_good s (vertex_count_of s) (polygon_count_of s))) BadPolygon Accepted (λ e. omega (arith, e)) v.1 in
+    let a = past (ltb (length s) 144) TooShort _ h in
+    let b = past (not (eqb (edition s) 1)) WrongEdition _ a.1 in
+    let c = past (too_large (vertex_count_of s) (polygon_count_of s)) TooLarge _ b.1 in
+    let d = past (not (fitted s (vertex_count_of s) (polygon_count_of s))) WrongLength _ c.1 in
+    let j = past (not (job_good s (entry_at (vertex_count_of s) (polygon_count_of s)))) BadJob _ d.1 in
+    let v = past (not (vertices_good s (vertex_count_of s))) BadVertex _ j.1 in
+    let p = past (not (polygons_good s (vertex_count_of s) (polygon_count_of s))) BadPolygon (Ok tt) v.1 in
     record {
       long = a.0;
       few = c.0;

@@ -9,24 +9,25 @@ use borrow.Author.Tests.{not-false, lt-ltb, le-ltb, ltb-false, eq-eqb, ne_eqb, e
 use Rattle.num_float.proofs.Tests.{or_false_left, or_false_right}
 use Rattle.file_part.specs.file_field.specs.Field.{u32_at}
 use Rattle.file_job_ok.specs.Rules.{job_good}
-use Rattle.file_ok.specs.declared.verdict.Verdict.{Verdict}
-use Rattle.file_ok.specs.declared.verdict.Verdict.TheVariants.{Accepted, TooShort, WrongEdition, TooLarge, WrongLength, BadJob, BadVertex, BadPolygon}
+use Rattle.std.specs.Prelude.{⊤, Result, Ok, Err}
+use Rattle.refusal.specs.declared.Refusal.{Refusal}
+use Rattle.refusal.specs.declared.Refusal.TheVariants.{TooShort, WrongEdition, TooLarge, WrongLength, BadJob, BadVertex, BadPolygon}
 use Rattle.file_part.specs.Layout.{edition, vertex_count_of, polygon_count_of, back, entry_at, size_of}
 use Rattle.file_ok.specs.Rules.{vertices_good, polygons_good}
 use Rattle.file_ok.specs.Verdict.{too_large, fitted, content_verdict, verdict_of}
 
 -- ---- 5 to 7
-pub content_job : (s : List ℕ) (v p at : ℕ) (j : Bool) → at ≡ entry_at v p → j ≡ job_good s at → not j ≡ true → BadJob ≡ content_verdict s v p
+pub content_job : (s : List ℕ) (v p at : ℕ) (j : Bool) → at ≡ entry_at v p → j ≡ job_good s at → not j ≡ true → Err BadJob ≡ content_verdict s v p
 unfolding content_verdict
 content_job s v p at j i e h = rw (← i, ← e, h)
 
 pub content_vertex : (s : List ℕ) (v p at : ℕ) (j a : Bool) →
-    at ≡ entry_at v p → j ≡ job_good s at → not j ≡ false → a ≡ vertices_good s v → not a ≡ true → BadVertex ≡ content_verdict s v p
+    at ≡ entry_at v p → j ≡ job_good s at → not j ≡ false → a ≡ vertices_good s v → not a ≡ true → Err BadVertex ≡ content_verdict s v p
 unfolding content_verdict
 content_vertex s v p at j a i e h f k = rw (← i, ← e, h, ← f, k)
 
 pub content_polygon : (s : List ℕ) (v p at : ℕ) (j a b r : Bool) → r ≡ not b →
-    at ≡ entry_at v p → j ≡ job_good s at → not j ≡ false → a ≡ vertices_good s v → not a ≡ false → b ≡ polygons_good s v p → cond r BadPolygon Accepted ≡ content_verdict s v p
+    at ≡ entry_at v p → j ≡ job_good s at → not j ≡ false → a ≡ vertices_good s v → not a ≡ false → b ≡ polygons_good s v p → cond r (Err BadPolygon) (Ok tt) ≡ content_verdict s v p
 unfolding content_verdict
 content_polygon s v p at j a b r z i e h f k g = rw (← i, ← e, h, ← f, k, ← g, z)
 
@@ -39,7 +40,7 @@ sized n m b k h =
     (eqb-true _ _ (not-false _ (or_false_left (not (eqb n m)) (not (eqb b k)) h)), eqb-true _ _ (not-false _ (or_false_right (not (eqb n m)) (not (eqb b k)) h)))
 
 -- ---- 1 to 4
-pub verdict_short : (s : List ℕ) → length s < 144 → TooShort ≡ verdict_of s
+pub verdict_short : (s : List ℕ) → length s < 144 → Err TooShort ≡ verdict_of s
 unfolding verdict_of
 verdict_short s h = rw (lt-ltb _ _ h)
 
@@ -51,16 +52,16 @@ pub record Passed (s : List ℕ) (e v p : ℕ) : Type 0 where
   pub vertices_is : v ≡ vertex_count_of s
   pub polygons_is : p ≡ polygon_count_of s
 
-pub verdict_edition : (s : List ℕ) (e : ℕ) → 144 ≤ length s → e ≡ u32_at s (length s - 16) → (e ≡ 1 → ⊥) → WrongEdition ≡ verdict_of s
+pub verdict_edition : (s : List ℕ) (e : ℕ) → 144 ≤ length s → e ≡ u32_at s (length s - 16) → (e ≡ 1 → ⊥) → Err WrongEdition ≡ verdict_of s
 unfolding verdict_of edition
 verdict_edition s e h q f = rw (le-ltb _ _ h, ← q, ne_eqb _ _ f)
 
-pub verdict_large : (s : List ℕ) (e v p : ℕ) → Passed s e v p → (ltb 16384 v || ltb 4096 p) ≡ true → TooLarge ≡ verdict_of s
+pub verdict_large : (s : List ℕ) (e v p : ℕ) → Passed s e v p → (ltb 16384 v || ltb 4096 p) ≡ true → Err TooLarge ≡ verdict_of s
 unfolding verdict_of edition too_large
 verdict_large s e v p c t = rw (le-ltb _ _ c.long, ← c.edition_is, eq-eqb _ _ c.first, ← c.vertices_is, ← c.polygons_is, t)
 
 pub verdict_length : (s : List ℕ) (e v p b : ℕ) → Passed s e v p → (ltb 16384 v || ltb 4096 p) ≡ false → b ≡ u32_at s (length s - 4) →
-    (not (eqb (length s) (size_of v p)) || not (eqb b (80 * p + 144))) ≡ true → WrongLength ≡ verdict_of s
+    (not (eqb (length s) (size_of v p)) || not (eqb b (80 * p + 144))) ≡ true → Err WrongLength ≡ verdict_of s
 unfolding verdict_of edition too_large fitted back
 verdict_length s e v p b c t q f =
     rw (le-ltb _ _ c.long, ← c.edition_is, eq-eqb _ _ c.first, ← c.vertices_is, ← c.polygons_is, t, ← q, both (eqb (length s) (size_of v p)) (eqb b (80 * p + 144)) f)
@@ -69,7 +70,7 @@ verdict_length s e v p b c t q f =
     both true y h = h
     both false y h = refl
 
-pub verdict_content : (s : List ℕ) (e v p b : ℕ) (r : Verdict) → Passed s e v p → (ltb 16384 v || ltb 4096 p) ≡ false → b ≡ u32_at s (length s - 4) →
+pub verdict_content : (s : List ℕ) (e v p b : ℕ) (r : Result ⊤ Refusal) → Passed s e v p → (ltb 16384 v || ltb 4096 p) ≡ false → b ≡ u32_at s (length s - 4) →
     (not (eqb (length s) (size_of v p)) || not (eqb b (80 * p + 144))) ≡ false → r ≡ content_verdict s v p → r ≡ verdict_of s
 unfolding verdict_of edition too_large fitted back
 verdict_content s e v p b r c t q f h =

@@ -12,12 +12,10 @@ pub fn vertices_are_good(file: &[u8], vertices: usize) -> bool
     requires { 24 * vertices ≤ length file.now }
     ensures { result ≡ vertices_good file.now vertices }
 {
-    let mut i: usize = 0;
-    while i < vertices {
+    for i in 0..vertices {
         if !is_point(vertex(file, i)) {
             return false;
         }
-        i += 1;
     }
     true
 }
@@ -79,14 +77,12 @@ pub fn polygons_are_good(file: &[u8], vertices: usize, polygons: usize) -> bool
     ensures { result ≡ polygons_good file.now vertices polygons }
 {
     let mut first: usize = 0;
-    let mut p: usize = 0;
-    while p < polygons {
+    for p in 0..polygons {
         let at = entry_at(vertices, p);
         if !entry_is_good(file, vertices, at, first) {
             return false;
         }
         first += run_length(file, at);
-        p += 1;
     }
     first == vertices
 }

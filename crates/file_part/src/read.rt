@@ -7,8 +7,8 @@ ghost use Rattle.file_part.specs.Part.{face_at, surface_at, first_at, count_at_o
 use file_job::file_field::read::{f64_at, u32_at, vec_at};
 use file_job::math::Vec3;
 
-// The name of a face: the feature that made it and its number there.
-#[derive(Clone, Copy)]
+// The name of a face: the feature that made it and its number there. Ids are in order by feature, then by index.
+#[derive(Clone, Copy, Debug, PartialEq, Eq, PartialOrd, Ord)]
 pub struct FaceId {
     pub feature: u32,
     pub index: u32,
@@ -30,6 +30,7 @@ pub enum SurfaceKind {
 }
 
 // V, from the trailer.
+// One field's place each, with a contract of its own.
 pub fn vertex_count(file: &[u8]) -> usize
     requires { 16 ≤ length file.now }
     ensures { result ≡ vertex_count_of file.now }

@@ -1,7 +1,7 @@
 // The value at half the total weight. Pairs of value and weight are numbers in a lent slice.
 #![tactic(auto)]
 
-ghost use Rattle.std.specs.Prelude.{◌≡◌, ◌≤◌, ◌<◌, min, length, get_or};
+ghost use Rattle.std.specs.Prelude.{◌≡◌, ◌≤◌, ◌<◌, length, get_or};
 ghost use Rattle.std.specs.Float.{nan};
 ghost use Rattle.list_sort.specs.Work.{Numbered};
 ghost use Rattle.list_median.specs.Median.{weight_to, reached_at, Median};
@@ -9,28 +9,13 @@ ghost use Rattle.list_median.specs.Work.{Pairs};
 
 use list_sort::sort;
 
-fn wide(x: u32) -> usize
-    ensures { result ≡ x }
-{
-    x as usize
-}
-
-fn lesser(a: usize, b: usize) -> usize
-    ensures { result ≡ min a b }
-{
-    if a <= b {
-        return a;
-    }
-    b
-}
-
 // What a list has of pair k.
 pub fn of_pair(list: &[f64], mem: &[u32], k: usize) -> f64
     requires fact_1 { k < length mem.now }
     requires fact_2 { get_or mem.now k 0 < length list.now }
     ensures { result ≡ get_or list.now (get_or mem.now k 0) nan }
 {
-    list[wide(mem[k])]
+    list[mem[k] as usize]
 }
 
 // The weights of the first n pairs, added.
@@ -40,10 +25,8 @@ pub fn weight_sum(weights: &[f64], mem: &[u32], n: usize) -> f64
     ensures { result ≡ weight_to weights.now mem.now n }
 {
     let mut sum = 0.0;
-    let mut k: usize = 0;
-    while k < n {
-        sum = sum + of_pair(weights, mem, k);
-        k += 1;
+    for k in 0..n {
+        sum += of_pair(weights, mem, k);
     }
     sum
 }
@@ -55,13 +38,11 @@ fn reached(weights: &[f64], mem: &[u32], n: usize, bound: f64) -> usize
     ensures { result ≡ reached_at weights.now mem.now n bound }
 {
     let mut acc = 0.0;
-    let mut k: usize = 0;
-    while k < n {
-        acc = acc + of_pair(weights, mem, k);
+    for k in 0..n {
+        acc += of_pair(weights, mem, k);
         if acc >= bound {
             return k;
         }
-        k += 1;
     }
     n
 }
@@ -77,5 +58,5 @@ pub fn weighted_median(values: &[f64], weights: &[f64], mem: &mut [u32], n: usiz
     }
     let bound = 0.5 * weight_sum(weights, mem, n);
     let k = reached(weights, mem, n, bound);
-    of_pair(values, mem, lesser(k, n - 1))
+    of_pair(values, mem, k.min(n - 1))
 }

@@ -40,6 +40,7 @@ impl Vec3 {
     };
 
     // self + o
+    // Methods, as in the Rust that is ported, and not operators.
     pub fn add(self, o: Vec3) -> Vec3
         ensures { result ≡ plus self o }
     {

@@ -25,7 +25,8 @@ use Rattle.solid_sizes.specs.Sizes.{PlaneWithin}
 use Rattle.solid_sizes.proofs.Vectors.{dot_within}
 use Rattle.solid_sizes.proofs.Planes.{checked_plane}
 use Rattle.solid_sizes.proofs.Above.{add_beyond, beyond_above}
-use Rattle.wall_ray.specs.declared.strike.Hit.TheVariants.{At}
+use Rattle.std.specs.Prelude.{Some}
+use Rattle.wall_ray.specs.declared.strike.Hit.{Hit}
 use Rattle.wall_ray.specs.Slab.{reached_in}
 use Rattle.wall_ray.specs.Strike.{is_parallel, time_of, hit_time, is_inside, crosses, own_span, struck}
 use Rattle.wall_ray.specs.Nearest.{hit_of}
@@ -97,14 +98,14 @@ readings_within s h = readings_each t (ReadingWithin t) hit
     plane : (p : ℕ) → p < t.polygons → PlaneWithin t p
     plane p l = checked_plane s h p (omega (arith, l, part_polygons s))
 
-    hit : (p q : ℕ) (x : Float) → p < t.polygons → hit_of t (ray_of t p) ≡ At q x → faces_back t p q ≡ true →
-        ReadingWithin t (record { polygon = p; hit = q; thickness = add binary64 x e_6 })
-    hit p q x l e back =
-        let k = hit_struck t (ray_of t p) q x e in
+    hit : (p : ℕ) (h : Hit) → p < t.polygons → hit_of t (ray_of t p) ≡ Some h → faces_back t p h.polygon ≡ true →
+        ReadingWithin t (record { polygon = p; hit = h.polygon; thickness = add binary64 h.t e_6 })
+    hit p h l e back =
+        let k = hit_struck t (ray_of t p) h e in
         record {
           polygon = l;
           hit = k.0;
-          thickness = subst (λ (y : Float). ReadingBounds (add binary64 y e_6)) (sym k.2) (thickness_bounds t p q (plane p l) (plane q k.0) back k.1);
+          thickness = subst (λ (y : Float). ReadingBounds (add binary64 y e_6)) (sym k.2) (thickness_bounds t p h.polygon (plane p l) (plane h.polygon k.0) back k.1);
         }
 
 pub reading_bounds : (s : List ℕ) → Checked s → (k : ℕ) → k < length (readings_of (part_of s)) → ReadingBounds (reading (readings_of (part_of s)) k).thickness

@@ -97,14 +97,6 @@ module _ (x : Float) (digits shift : ℕ) (D : Decomposed x digits shift) where
     one_is : down < 53 → 1 * 2 ^ down % 2 ^ 64 ≡ 2 ^ down
     one_is h = shifted_one down (omega arith)
 
-    pub one_le : down < 53 → 1 ≤ 1 * 2 ^ down % 2 ^ 64
-    one_le h = subst (λ (k : ℕ). 1 ≤ k) (sym (one_is h)) (pow_pos down)
-
-    pub ceil_sum_lt : down < 53 → digits + (1 * 2 ^ down % 2 ^ 64 - 1) < 2 ^ 64
-    ceil_sum_lt h =
-        let one : 2 ^ down ≤ 2 ^ 52 = pow_mono {i = down} {j = 52} (omega arith) in
-        omega (arith, one_is h, D.few)
-
     pub ceil_of_fraction : down < 53 → (digits + (1 * 2 ^ down % 2 ^ 64 - 1)) / 2 ^ down ≡ ceil_div (num x) (den x)
     ceil_of_fraction h =
         ap (λ (k : ℕ). (digits + (k - 1)) / 2 ^ down) (one_is h)

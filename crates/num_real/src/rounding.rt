@@ -3,7 +3,7 @@ ghost use Rattle.std.specs.Prelude.{◌≡◌, ◌*◌, ◌^◌, ◌<◌};
 ghost use Rattle.std.specs.Float.Ieee.Positive.{num, den};
 ghost use Rattle.num_real.specs.Rounding.{round_half_up, ceil_div, round_i64_of, ceil_usize_of};
 
-use crate::bits::decompose;
+use crate::bits::{Binary, decompose};
 use crate::select::abs;
 
 // The size of x, which is digits * 2^shift / 2^1074, to the nearest whole number, an exact half up.
@@ -11,9 +11,7 @@ fn round_size(x: f64) -> u64
     requires { num x < 2 ^ 63 * den x }
     ensures { (result ≡ round_half_up (num x) (den x)) × (result < 2 ^ 63) }
 {
-    let binary = decompose(x);
-    let digits = binary.digits;
-    let shift = binary.shift;
+    let Binary { digits, shift } = decompose(x);
     if 1074 <= shift {
         return digits << (shift - 1074);
     }
@@ -27,6 +25,7 @@ fn round_size(x: f64) -> u64
 }
 
 // x.round() as i64
+// Not std's round: that it is the same is a proof of its own, and the promise is by this definition.
 pub fn round_i64(x: f64) -> i64
     ensures { result ≡ round_i64_of x }
 {
@@ -50,9 +49,7 @@ fn ceil_size(x: f64) -> u64
     requires fact_2 { num x < 2 ^ 64 * den x }
     ensures { result ≡ ceil_div (num x) (den x) }
 {
-    let binary = decompose(x);
-    let digits = binary.digits;
-    let shift = binary.shift;
+    let Binary { digits, shift } = decompose(x);
     if 1074 <= shift {
         return digits << (shift - 1074);
     }

@@ -3,11 +3,11 @@ ghost use Rattle.std.specs.Prelude.{◌≡◌};
 ghost use Rattle.num_real.specs.Select.{min_of, max_of, abs_of};
 
 // a.min(b)
+// Not std's min: of two equal numbers the first stays, as in the definition.
 pub fn min(a: f64, b: f64) -> f64
     ensures { result ≡ min_of a b }
 {
-    // Only a NaN differs from itself.
-    if a != a {
+    if a.is_nan() {
         return b;
     }
     if b < a {
@@ -20,7 +20,7 @@ pub fn min(a: f64, b: f64) -> f64
 pub fn max(a: f64, b: f64) -> f64
     ensures { result ≡ max_of a b }
 {
-    if a != a {
+    if a.is_nan() {
         return b;
     }
     if a < b {
@@ -33,12 +33,5 @@ pub fn max(a: f64, b: f64) -> f64
 pub fn abs(x: f64) -> f64
     ensures { result ≡ abs_of x }
 {
-    if x < 0.0 {
-        return -x;
-    }
-    // Minus zero is equal to zero, and becomes zero.
-    if x == 0.0 {
-        return 0.0;
-    }
-    x
+    x.abs()
 }

@@ -90,6 +90,7 @@ fn bisect(m: u64) -> u64
 {
     let mut lo: u64 = LEADING;
     let mut hi: u64 = 0x0020_0000_0000_0000;
+    // A while: the interval is halved.
     while lo + 1 < hi {
         let mid = (lo + hi) / 2;
         if FAR < excess(m, mid) {
@@ -171,6 +172,7 @@ pub fn sqrt_bits(b: u64) -> u64
 }
 
 // The root of an f64.
+// Not std's sqrt: that it is the same is a proof of its own, and the promise is by this definition.
 pub fn sqrt(x: f64) -> f64
     ensures { result ≡ root x }
 {

@@ -16,9 +16,9 @@ use lib.Ieee.Order.{le_of_values}
 use lib.Ieee.Positive.{num, den, den_pos}
 use lib.Ieee.Scale.{finite}
 use borrow.Author.Tests.{le-leb, lt-leb}
-use Rattle.num_text.specs.declared.decimal.Answer.{Answer}
-use Rattle.refusal.specs.Numbers.{no_decimal}
-use Rattle.num_text.specs.declared.decimal.Answer.TheVariants.{Written, Refused}
+use Rattle.std.specs.Prelude.{Result, Ok, Err}
+use Rattle.refusal.specs.declared.Refusal.{Refusal}
+use Rattle.refusal.specs.declared.Refusal.TheVariants.{NoDecimal}
 use Rattle.num_text.specs.Decimal.{scaled, pointed, text, zero, limit, accepted, taken, refusal, Writes, decimal_text}
 use Rattle.num_text.specs.Work.{Divided}
 use Rattle.num_text.specs.Number.{digits, numeral, after_point, width}
@@ -154,8 +154,8 @@ module _ (x : Float) (p : ℕ) where
       go false b c h = zero-le
 
   -- and no call with room for it is refused
-  pub never_refused : {before after : List ℕ} {r : Answer} → T (le zero x) → T (lt x limit) → p ≤ 3 → 24 ≤ length before → Writes x p before after r
-      → (r ≡ Written (length (text x p))) × (refusal r ≡ 0) × (after ≡ text x p ++ drop (length (text x p)) before)
+  pub never_refused : {before after : List ℕ} {r : Result ℕ Refusal} → T (le zero x) → T (lt x limit) → p ≤ 3 → 24 ≤ length before → Writes x p before after r
+      → (r ≡ Ok (length (text x p))) × (refusal r ≡ 0) × (after ≡ text x p ++ drop (length (text x p)) before)
   unfolding taken
   never_refused {before} {after} {r} a b c d w =
       let t : taken x p (length before) ≡ true = and_true (accepted x p) (leb 24 (length before)) (accepts a b c) (le-leb 24 (length before) d) in
@@ -163,29 +163,29 @@ module _ (x : Float) (p : ℕ) where
 
 -- ---- what a call leaves
 module _ (x : Float) (p : ℕ) (l : List ℕ) where
-  refuse : taken x p (length l) ≡ false → Writes x p l l Refused
+  refuse : taken x p (length l) ≡ false → Writes x p l l (Err NoDecimal)
   unfolding refusal
   refuse h = record { answer = rw h; number = rw h; buffer = rw h }
 
-  pub refuse_negative : le zero x ≡ false → Writes x p l l Refused
+  pub refuse_negative : le zero x ≡ false → Writes x p l l (Err NoDecimal)
   unfolding taken
   refuse_negative h = refuse (and_false_l (accepted x p) (leb 24 (length l)) (and_false_l (le zero x && lt x limit) (leb p 3) (and_false_l (le zero x) (lt x limit) h)))
 
-  pub refuse_large : lt x limit ≡ false → Writes x p l l Refused
+  pub refuse_large : lt x limit ≡ false → Writes x p l l (Err NoDecimal)
   unfolding taken
   refuse_large h = refuse (and_false_l (accepted x p) (leb 24 (length l)) (and_false_l (le zero x && lt x limit) (leb p 3) (and_false_r (le zero x) (lt x limit) h)))
 
-  pub refuse_places : 3 < p → Writes x p l l Refused
+  pub refuse_places : 3 < p → Writes x p l l (Err NoDecimal)
   unfolding taken
   refuse_places h = refuse (and_false_l (accepted x p) (leb 24 (length l)) (and_false_r (le zero x && lt x limit) (leb p 3) (lt-leb p 3 h)))
 
-  pub refuse_short : length l < 24 → Writes x p l l Refused
+  pub refuse_short : length l < 24 → Writes x p l l (Err NoDecimal)
   unfolding taken
   refuse_short h = refuse (and_false_r (accepted x p) (leb 24 (length l)) (lt-leb 24 (length l) h))
 
   -- the whole number and the fraction, written from the start
   pub accept : T (le zero x) → T (lt x limit) → p ≤ 3 → 24 ≤ length l → {after : List ℕ} {w r n : ℕ} → Divided (scaled x p) (10 ^ p) w r
-      → Put l 0 (numeral w ++ after_point (digits p r)) after n → Writes x p l after (Written n)
+      → Put l 0 (numeral w ++ after_point (digits p r)) after n → Writes x p l after (Ok n)
   unfolding taken text pointed refusal
   accept a b c d {after} {w} {r} {n} q put =
       let t : taken x p (length l) ≡ true = and_true (accepted x p) (leb 24 (length l)) (accepts x p a b c) (le-leb 24 (length l) d) in
@@ -194,13 +194,13 @@ module _ (x : Float) (p : ℕ) (l : List ℕ) where
       let written : Put l 0 (text x p) after n = put_same _ _ same put in
       let short : length (text x p) ≤ 23 = text_length x p a b c in
       record {
-        answer = ap Written (put_measures_lem (text x p) written (omega arith) ∙ zero-add (length (text x p))) ∙ sym (rw t);
+        answer = ap Ok (put_measures_lem (text x p) written (omega arith) ∙ zero-add (length (text x p))) ∙ sym (rw t);
         number = sym (rw t);
         buffer = put_front (text x p) written (omega arith) ∙ sym (rw t);
       }
 
 -- ---- what the answer tells of a call with room
-module _ (x : Float) (p : ℕ) {before after : List ℕ} {r : Answer} (w : Writes x p before after r) (room : 24 ≤ length before) where
+module _ (x : Float) (p : ℕ) {before after : List ℕ} {r : Result ℕ Refusal} (w : Writes x p before after r) (room : 24 ≤ length before) where
   taken_is : taken x p (length before) ≡ accepted x p
   unfolding taken
   taken_is = rw (le-leb 24 (length before) room) (and_true_r (accepted x p))
@@ -209,38 +209,32 @@ module _ (x : Float) (p : ℕ) {before after : List ℕ} {r : Answer} (w : Write
       and_true_r true = refl
       and_true_r false = refl
 
-  number_is : refusal r ≡ cond (accepted x p) 0 no_decimal
-  number_is = w.number ∙ ap (λ (b : Bool). cond b 0 no_decimal) taken_is
+  answer_is : r ≡ cond (accepted x p) (Ok (length (text x p))) (Err NoDecimal)
+  answer_is = w.answer ∙ ap (λ (b : Bool). cond b (Ok (length (text x p))) (Err NoDecimal)) taken_is
 
-  pub refused_text : r ≡ Refused → decimal_text x p ≡ []
-  unfolding decimal_text refusal
-  refused_text e = go (accepted x p) (text x p) (sym (ap refusal e) ∙ number_is)
+  pub refused_text : {e : Refusal} → r ≡ Err e → decimal_text x p ≡ []
+  unfolding decimal_text
+  refused_text {e} h = go (accepted x p) (text x p) (sym h ∙ answer_is)
     where
-      go : (b : Bool) (l : List ℕ) → ◌≡◌ {A = ℕ} no_decimal (cond b 0 no_decimal) → cond b l [] ≡ []
-      go true l h = absurd (omega arith)
-      go false l h = refl
+      go : (b : Bool) (l : List ℕ) → Err e ≡ cond b (Ok (length (text x p))) (Err NoDecimal) → cond b l [] ≡ []
+      go true l k = cc
+      go false l k = refl
 
-  pub written_text : {n : ℕ} → r ≡ Written n → (n ≡ length (decimal_text x p)) × (after ≡ decimal_text x p ++ drop n before)
-  unfolding decimal_text refusal
+  pub written_text : {n : ℕ} → r ≡ Ok n → (n ≡ length (decimal_text x p)) × (after ≡ decimal_text x p ++ drop n before)
+  unfolding decimal_text
   written_text {n} e =
-      let yes : accepted x p ≡ true = go (accepted x p) (sym (ap refusal e) ∙ number_is) in
+      let yes : accepted x p ≡ true = go (accepted x p) (sym e ∙ answer_is) in
       let t : taken x p (length before) ≡ true = taken_is ∙ yes in
-      let same : r ≡ Written (length (text x p)) = w.answer ∙ (rw t) in
+      let same : r ≡ Ok (length (text x p)) = w.answer ∙ (rw t) in
       let is : n ≡ length (text x p) = cc in
       let filled : after ≡ text x p ++ drop (length (text x p)) before = w.buffer ∙ (rw t) in
       rw yes (is, rw is filled)
     where
-      go : (b : Bool) → ◌≡◌ {A = ℕ} 0 (cond b 0 no_decimal) → b ≡ true
-      go true h = refl
-      go false h = absurd (omega arith)
+      go : (b : Bool) → Ok n ≡ cond b (Ok (length (text x p))) (Err NoDecimal) → b ≡ true
+      go true k = refl
+      go false k = cc
 
-  -- so the text is what stands in the first n bytes
-  pub written_within : {n : ℕ} → r ≡ Written n → n ≤ length after
-  written_within {n} e =
-      let t = written_text e in
-      omega (arith, t.0, ap length t.1, length-append (decimal_text x p) (drop n before))
-
-  pub written_front : {n : ℕ} → r ≡ Written n → take n after ≡ decimal_text x p
+  pub written_front : {n : ℕ} → r ≡ Ok n → take n after ≡ decimal_text x p
   written_front {n} e =
       let t = written_text e in
       ap (take n) t.1 ∙ take_at (decimal_text x p) (drop n before) n (sym t.0)

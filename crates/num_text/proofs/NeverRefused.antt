@@ -10,8 +10,8 @@ use Rattle.num_float.specs.Sign.{NonNeg}
 use Rattle.num_float.specs.Within.{Within}
 use Rattle.num_float.proofs.Tests.{holds}
 use Rattle.num_float.proofs.Within.{within_lt_2_60}
-use Rattle.num_text.specs.declared.decimal.Answer.{Answer}
-use Rattle.num_text.specs.declared.decimal.Answer.TheVariants.{Written}
+use Rattle.std.specs.Prelude.{Result, Ok}
+use Rattle.refusal.specs.declared.Refusal.{Refusal}
 use Rattle.num_text.specs.Decimal.{text, zero, limit, accepted, refusal, Writes, decimal_text}
 use Rattle.num_text.proofs.DecimalLaws.{from_zero, to_limit, accepts, accepted_text, never_refused}
 
@@ -30,6 +30,6 @@ module _ (x : Float) (b p : ℕ) (nonneg : NonNeg x) (within : Within x b) (belo
   written_at = accepted_text x p accepted_at
 
   -- and so it is by the decimal writer, into any buffer of 24 bytes or more
-  pub written_first : {before after : List ℕ} {r : Answer} → 24 ≤ length before → Writes x p before after r
-      → (r ≡ Written (length (text x p))) × (refusal r ≡ 0) × (after ≡ text x p ++ drop (length (text x p)) before)
+  pub written_first : {before after : List ℕ} {r : Result ℕ Refusal} → 24 ≤ length before → Writes x p before after r
+      → (r ≡ Ok (length (text x p))) × (refusal r ≡ 0) × (after ≡ text x p ++ drop (length (text x p)) before)
   written_first room w = never_refused x p from_0 to_2_60 places room w

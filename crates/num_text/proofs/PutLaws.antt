@@ -1,6 +1,6 @@
 -- Laws of `Put`: how writers compose, and what the slice and the position then are.
 use mathlib.Core.Path.{◌≡◌, refl, sym, ap, ◌∙◌, subst}
-use mathlib.Core.List.{List, [], ◌∷◌, ◌++◌}
+use mathlib.Core.List.{List, [], ◌∷◌, ◌++◌, append_assoc}
 use Prim.Native.Nat.{ℕ, suc, ◌+◌, ◌-◌, ◌≤◌, ◌<◌, ◌^◌, min}
 use native.Mathlib.Nat.{add-zero, zero-add}
 use native.Mathlib.Numerals.{add-one}
@@ -8,6 +8,7 @@ use native.Mathlib.Decide.{dec_le}
 use native.Mathlib.Omega.{arith}
 use lib.ListN.{length, take, drop, set, get_or, length-append}
 use lib.Seq.{sets, length-sets, sets-eq, set_out, take-suc, take-append_seam}
+use borrow.Rule.Slice.PartMut.{put_mid, Post-is}
 use Rattle.num_text.specs.Put.{over, advance, Put}
 
 -- ---- the slice
@@ -66,6 +67,19 @@ put_then {d} {e} {f} {at} {r} {s} p q a b =
           ∙ ap (λ (i : ℕ). advance i (length q)) a.next
           ∙ advance_add at (length p) (length q)
           ∙ ap (advance at) (sym (length-append p q));
+    }
+
+-- bytes that fit, copied
+pub put_copied : (d s : List ℕ) (at : ℕ) → length d < 2 ^ 63 → at + length s ≤ length d → Put d at s (put_mid at (at + length s - at) d s) (at + length s)
+unfolding over advance
+put_copied d s at h k =
+    record {
+      room = h;
+      slice =
+          ap (λ (l : List ℕ). take at d ++ (s ++ l)) (Post-is at (at + length s) d (omega arith))
+          ∙ sym (append_assoc (take at d) s (drop (at + length s) d))
+          ∙ sym (sets-eq s d at k);
+      next = omega arith;
     }
 
 -- the same bytes in other words

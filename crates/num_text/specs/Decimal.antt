@@ -1,12 +1,12 @@
 -- The decimal text of a float, and when the writer refuses. Definitions only.
-use Rattle.std.specs.Prelude.{◌≡◌, List, [], ◌++◌, Bool, false, ◌&&◌, cond, ℕ, ◌*◌, ◌/◌, ◌%◌, ◌^◌, pos, leb, length, drop, Float}
+use Rattle.std.specs.Prelude.{◌≡◌, List, [], ◌++◌, Bool, false, ◌&&◌, cond, ℕ, ◌*◌, ◌/◌, ◌%◌, ◌^◌, pos, leb, length, drop, Float, Result, Ok, Err}
 use Rattle.std.specs.Float.{fin}
 use Rattle.std.specs.Float.Ieee.{le, lt}
 use Rattle.std.specs.Float.Ieee.Nearest.{closest}
 use Rattle.std.specs.Float.Ieee.Positive.{num, den}
-use Rattle.refusal.specs.Numbers.{no_decimal}
-use Rattle.num_text.specs.declared.decimal.Answer.{Answer}
-use Rattle.num_text.specs.declared.decimal.Answer.TheVariants.{Written, Refused}
+use Rattle.refusal.specs.declared.Refusal.{Refusal}
+use Rattle.refusal.specs.declared.Refusal.TheVariants.{NoDecimal}
+use Rattle.refusal.specs.Numbers.{number, no_decimal}
 use Rattle.num_text.specs.Number.{positional, digits, numeral, after_point}
 
 -- ---- the text
@@ -43,14 +43,14 @@ unfolding accepted
 taken x p room = accepted x p && leb 24 room
 
 -- the number of the refusal in the table, 0 for none
-unfoldable pub refusal : Answer → ℕ
-refusal (Written n) = 0
-refusal Refused = no_decimal
+unfoldable pub refusal : Result ℕ Refusal → ℕ
+refusal (Ok n) = 0
+refusal (Err e) = number e
 
 -- The answer r to x with p places, and the buffer before and after the call.
 -- "An accepted report or decimal fills the first bytes of its buffer and changes none after them"; a refusal changes nothing.
-pub record Writes (x : Float) (p : ℕ) (before after : List ℕ) (r : Answer) : Type 0 where
-  pub answer : r ≡ cond (taken x p (length before)) (Written (length (text x p))) Refused
+pub record Writes (x : Float) (p : ℕ) (before after : List ℕ) (r : Result ℕ Refusal) : Type 0 where
+  pub answer : r ≡ cond (taken x p (length before)) (Ok (length (text x p))) (Err NoDecimal)
   pub number : refusal r ≡ cond (taken x p (length before)) 0 no_decimal
   pub buffer : after ≡ cond (taken x p (length before)) (text x p ++ drop (length (text x p)) before) before
 

@@ -3,3 +3,4 @@ pub mod Decimal
 pub mod Number
 pub mod Put
 pub mod Work
+pub mod Text

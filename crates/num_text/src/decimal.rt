@@ -2,33 +2,16 @@
 ghost use Rattle.std.specs.Prelude.{◌≡◌, ◌*◌, ◌^◌, ◌≤◌, ◌<◌, ◌++◌, length};
 ghost use Rattle.std.specs.Float.Ieee.Nearest.{closest};
 ghost use Rattle.std.specs.Float.Ieee.Positive.{num, den};
-ghost use Rattle.num_text.specs.Decimal.{scaled, decimal_text, Writes};
+ghost use Rattle.num_text.specs.Decimal.{scaled, Writes};
 ghost use Rattle.num_text.specs.Work.{Divided};
 ghost use Rattle.num_text.specs.Number.{digits, numeral, after_point};
 ghost use Rattle.num_text.specs.Put.{Put};
 
+use num_real::bits::{Binary, decompose};
+use refusal::Refusal;
+
 // 2^60, where the numbers end that the decimal writer takes.
-const LIMIT: f64 = 1152921504606846976.0;
-
-// How the decimal writer ends: with so many bytes written, or none.
-#[derive(Clone, Copy)]
-pub enum Answer {
-    Written(usize),
-    Refused,
-}
-
-// 10 to the power p.
-fn power_of_ten(p: u32) -> u64
-    requires { p ≤ 3 }
-    ensures { result ≡ 10 ^ p }
-{
-    match p {
-        0 => 1,
-        1 => 10,
-        2 => 100,
-        _ => 1000,
-    }
-}
+pub const LIMIT: f64 = 1152921504606846976.0;
 
 // v / 2^s to the nearest whole number, an exact half to the even one. No branch, since it would go either way at random.
 fn nearest_shift(v: u64, s: u64) -> u64
@@ -55,9 +38,7 @@ fn rounded(x: f64, places: u32) -> Parts
     requires fact_2 { places ≤ 3 }
     ensures { Divided (scaled x places) (10 ^ places) result.whole result.part }
 {
-    let b = num_real::bits::decompose(x);
-    let digits = b.digits;
-    let shift = b.shift;
+    let Binary { digits, shift } = decompose(x);
     if 1074 <= shift {
         return Parts {
             whole: digits << (shift - 1074),
@@ -68,7 +49,7 @@ fn rounded(x: f64, places: u32) -> Parts
     if 64 <= s {
         return Parts { whole: 0, part: 0 };
     }
-    let ten = power_of_ten(places);
+    let ten = u64::pow(10, places);
     let n = nearest_shift(digits * ten, s);
     Parts {
         whole: n / ten,
@@ -88,37 +69,25 @@ fn put_pointed(out: &mut [u8], whole: u64, part: u64, places: usize) -> usize
     if places == 0 {
         return end;
     }
-    let point = crate::put::put_byte(out, end, b'.');
-    crate::digits::put_digits(out, point, part, places)
+    out[end] = b'.';
+    crate::digits::put_digits(out, end + 1, part, places)
 }
 
-// x with so many places, from the start of `out` on.
-pub fn decimal(x: f64, places: u32, out: &mut [u8]) -> Answer
+// x with so many places, from the start of `out` on. How many bytes.
+pub fn decimal(x: f64, places: u32, out: &mut [u8]) -> Result<usize, Refusal>
     ensures { Writes x places out.old out.new result }
 {
     if out.len() < 24 {
-        return Answer::Refused;
+        return Err(Refusal::NoDecimal);
     }
     if 3 < places {
-        return Answer::Refused;
+        return Err(Refusal::NoDecimal);
     }
     if x >= 0.0 {
         if x < LIMIT {
-            let t = rounded(x, places);
-            let n = put_pointed(out, t.whole, t.part, places as usize);
-            return Answer::Written(n);
+            let Parts { whole, part } = rounded(x, places);
+            return Ok(put_pointed(out, whole, part, places as usize));
         }
     }
-    Answer::Refused
-}
-
-// x with so many places, from the position `at` on; nothing where `decimal` takes no such number or places.
-pub fn put_decimal(out: &mut [u8], at: usize, x: f64, places: u32) -> usize
-    ensures { Put out.old at (decimal_text x places) out.new result }
-{
-    let mut text = [0u8; 24];
-    let Answer::Written(n) = decimal(x, places, &mut text) else {
-        return at;
-    };
-    crate::put::put_bytes(out, at, &text[..n])
+    Err(Refusal::NoDecimal)
 }

@@ -3,5 +3,5 @@
 
 pub mod decimal;
 mod digits;
-pub mod number;
-pub mod put;
+mod number;
+pub mod text;

@@ -1,4 +1,5 @@
 -- The parts of the file, one after the other.
+use Rattle.std.proofs.Common.{Result, Ok}
 use mathlib.Core.Path.{◌≡◌, refl, sym, ap, ◌∙◌, subst}
 use mathlib.Core.List.{List, [], ◌∷◌, ◌++◌, map, append_assoc, append-nil}
 use Prim.Native.Nat.{ℕ, zero, suc, ◌+◌, ◌-◌, ◌≤◌, ◌<◌, ◌^◌}
@@ -9,9 +10,13 @@ use native.Mathlib.Omega.{arith}
 use lib.ListN.{length, take, drop, get_or, length-map, length-append, get_or-append}
 use lib.Seq.{sets, sets-eq, take-suc, take_at, take-length}
 use lib.Ieee.{Float, nan}
+use Rattle.refusal.specs.declared.Refusal.{Refusal}
 use Rattle.math.specs.declared.Vec3.{Vec3}
 use Rattle.num_text.specs.Put.{Put}
-use Rattle.num_text.proofs.PutLaws.{put_none, put_then, put_same, put_length, put_front, put_measures_lem}
+use Rattle.num_text.specs.Text.{Adds}
+use Rattle.num_text.specs.declared.text.Text.{Text}
+use Rattle.num_text.proofs.PutLaws.{put_then, put_same, put_length, put_front, put_measures_lem}
+use Rattle.num_text.proofs.TextLaws.{adds_none, adds_then, adds_same}
 use Rattle.obj_number.specs.Whole.{capped}
 use Rattle.obj_line.specs.Form.{Form, vertex, face, group, skipped, other}
 use Rattle.obj_text.specs.declared.judge.Tally.{Tally}
@@ -28,13 +33,13 @@ use Rattle.obj.proofs.ConvertLaws.{Accepted, same_small}
 
 -- ---- the vertices, one by one
 module _ (row : ℕ → Vec3) where
-  pub rows_none : (d : List ℕ) → length d < 2 ^ 63 → Put d 0 (rows_to row 0) d 0
+  pub rows_none : (a : Text) → Adds a (rows_to row 0) a
   unfolding rows_to
-  rows_none d h = put_none d 0 h
+  rows_none a = adds_none a
 
-  pub rows_more : {d e f : List ℕ} {at r : ℕ} (c : ℕ) → Put d 0 (rows_to row c) e at → Put e at (vec_bytes (row c)) f r → Put d 0 (rows_to row (c + 1)) f r
+  pub rows_more : {x y z : Text} (c : ℕ) → Adds x (rows_to row c) y → Adds y (vec_bytes (row c)) z → Adds x (rows_to row (c + 1)) z
   unfolding rows_to
-  rows_more c a b = put_same _ _ (ap (rows_to row) (sym (add-one c))) (put_then (rows_to row c) (vec_bytes (row c)) a b)
+  rows_more c a b = adds_same _ _ (ap (rows_to row) (sym (add-one c))) (adds_then (rows_to row c) (vec_bytes (row c)) a b)
 
 block_snoc : (text ns : List ℕ) (n : ℕ) → vertex_block text (ns ++ (n ∷ [])) ≡ vertex_block text ns ++ vec_bytes (vertex_of text n)
 unfolding vertex_block
@@ -52,10 +57,10 @@ rows_to_lem text ns row used (suc k) each h l =
     ∙ sym (ap (vertex_block text) (take-suc ns k 0 (le_trans l h)) ∙ block_snoc text (take k ns) (get_or ns k 0))
 
 -- from the corners' own tables
-pub put_block : {d e : List ℕ} {r : ℕ} (text ns : List ℕ) (xs ys zs : List Float) (used : ℕ) → used ≤ length ns → Named ns used (length (vertices_of text)) → Filled text ns used xs ys zs
-    → Put d 0 (rows_to (row_at_of xs ys zs) used) e r → Put d 0 (vertex_block text (take used ns)) e r
+pub put_block : {d e : Text} (text ns : List ℕ) (xs ys zs : List Float) (used : ℕ) → used ≤ length ns → Named ns used (length (vertices_of text)) → Filled text ns used xs ys zs
+    → Adds d (rows_to (row_at_of xs ys zs) used) e → Adds d (vertex_block text (take used ns)) e
 put_block text ns xs ys zs used h n f p =
-    put_same _ _ (rows_to_lem text ns (row_at_of xs ys zs) used used (λ c l. f.each c l (n.from_one c l) (n.to_last c l)) h (le_of_eq refl)) p
+    adds_same _ _ (rows_to_lem text ns (row_at_of xs ys zs) used used (λ c l. f.each c l (n.from_one c l) (n.to_last c l)) h (le_of_eq refl)) p
 
 -- from the tables of all vertices
 pub named_within : (text ns : List ℕ) (used n : ℕ) (xs ys zs : List Float) → Named ns used (length (vertices_of text)) → Rows text n xs ys zs → n ≤ 16384 → Named ns used 16384
@@ -64,11 +69,11 @@ named_within text ns used n xs ys zs k r h = record {
   to_last = λ c l. le_trans (k.to_last c l) (le_trans (le_of_eq (sym r.many)) h);
 }
 
-pub put_named : {d e : List ℕ} {r : ℕ} (text ns : List ℕ) (xs ys zs : List Float) (used n : ℕ) → used ≤ length ns → Named ns used (length (vertices_of text)) → Rows text n xs ys zs → n ≤ 16384
-    → Put d 0 (rows_to (named_row ns xs ys zs) used) e r → Put d 0 (vertex_block text (take used ns)) e r
+pub put_named : {d e : Text} (text ns : List ℕ) (xs ys zs : List Float) (used n : ℕ) → used ≤ length ns → Named ns used (length (vertices_of text)) → Rows text n xs ys zs → n ≤ 16384
+    → Adds d (rows_to (named_row ns xs ys zs) used) e → Adds d (vertex_block text (take used ns)) e
 unfolding named_row vertex_of
 put_named text ns xs ys zs used n h k rows s p =
-    put_same _ _ (rows_to_lem text ns (named_row ns xs ys zs) used used (λ c l. rows.each s (get_or ns c 0 - 1) (place (get_or ns c 0) (length (vertices_of text)) (k.from_one c l) (k.to_last c l) rows.many)) h (le_of_eq refl)) p
+    adds_same _ _ (rows_to_lem text ns (named_row ns xs ys zs) used used (λ c l. rows.each s (get_or ns c 0 - 1) (place (get_or ns c 0) (length (vertices_of text)) (k.from_one c l) (k.to_last c l) rows.many)) h (le_of_eq refl)) p
   where
     place : (m v : ℕ) → 1 ≤ m → m ≤ v → n ≡ v → m - 1 < n
     place m v a b e = omega (arith, a, b, e)
@@ -122,16 +127,16 @@ same_vec : (v : Vec3) (a b c : Float) → a ≡ v.x → b ≡ v.y → c ≡ v.z 
 same_vec v a b c p q r = rw (p, q, r)
 
 -- ---- what the first pass has left of a text that nothing refuses
-module _ (text : List ℕ) (a b : Tables) (t : Tally) (s : length text < 2 ^ 63) (z : line_refusal text ≡ 0) (C : length (corners_of text) ≤ 16384) (P : length (faces_of text) ≤ 4096) (q : Sized a)
-    (j : Judged text a b t) where
+module _ (text : List ℕ) (a b : Tables) (t : Tally) (s : length text < 2 ^ 63) (z : line_refusal text ≡ Ok tt) (C : length (corners_of text) ≤ 16384) (P : length (faces_of text) ≤ 4096) (q : Sized a)
+    {r : Result Tally Refusal} (j : Judged text a b r) (k : r ≡ Ok t) where
   abbrev cs : List ℕ
   cs = corners_of text
 
   many : t.corners ≡ length cs
-  many = j.corners z ∙ same_small (length cs) 16384 C
+  many = j.corners t k ∙ same_small (length cs) 16384 C
 
   faces : t.polygons ≡ length (faces_of text)
-  faces = j.polygons z ∙ same_small (length (faces_of text)) 4096 P
+  faces = j.polygons t k ∙ same_small (length (faces_of text)) 4096 P
 
   same : map capped cs ≡ cs
   same = map_same cs (λ c l. le_trans (corner_inside text z c l).to (vertices_most text s))
@@ -151,10 +156,10 @@ module _ (text : List ℕ) (a b : Tables) (t : Tally) (s : length text < 2 ^ 63)
   ready_rows : Rows text t.defined b.xs b.ys b.zs
   unfolding row_at_of
   ready_rows = record {
-    many = j.defined z;
+    many = j.defined t k;
     each = λ h i l.
-        let inside : i < length (vertices_of text) = below i t.defined (length (vertices_of text)) (j.defined z) l in
-        let few : length (vertices_of text) ≤ 16384 = le_trans (le_of_eq (sym (j.defined z))) h in
+        let inside : i < length (vertices_of text) = below i t.defined (length (vertices_of text)) (j.defined t k) l in
+        let few : length (vertices_of text) ≤ 16384 = le_trans (le_of_eq (sym (j.defined t k))) h in
         same_vec (get_or (vertices_of text) i origin) (get_or b.xs i nan) (get_or b.ys i nan) (get_or b.zs i nan)
         (mapped (λ (v : Vec3). v.x) (vertices_of text) a.xs b.xs 16384 i origin nan (j.xs_are z) q.slots.xs_long few inside)
         (mapped (λ (v : Vec3). v.y) (vertices_of text) a.ys b.ys 16384 i origin nan (j.ys_are z) q.slots.ys_long few inside)
@@ -178,17 +183,17 @@ module _ (text : List ℕ) (a b : Tables) (t : Tally) (s : length text < 2 ^ 63)
 
 -- ---- the polygons, one by one
 module _ (is cs : List ℕ) where
-  pub entries_none : (d : List ℕ) (at : ℕ) → length d < 2 ^ 63 → Put d at (entries_to is cs 0) d at
+  pub entries_none : (a : Text) → Adds a (entries_to is cs 0) a
   unfolding entries_to
-  entries_none d at h = put_none d at h
+  entries_none a = adds_none a
 
-  pub entries_more : {d e f : List ℕ} {from at r : ℕ} (p first count : ℕ) → Put d from (entries_to is cs p) e at → first ≡ first_at cs p → count ≡ get_or cs p 0 → Put e at (entry_bytes (get_or is p 0) first count) f r
-      → Put d from (entries_to is cs (p + 1)) f r
+  pub entries_more : {d e f : Text} (p first count : ℕ) → Adds d (entries_to is cs p) e → first ≡ first_at cs p → count ≡ get_or cs p 0 → Adds e (entry_bytes (get_or is p 0) first count) f
+      → Adds d (entries_to is cs (p + 1)) f
   unfolding entries_to
   entries_more p first count a x y b =
-      put_same _ _ (ap (entries_to is cs) (sym (add-one p)))
-      (put_then (entries_to is cs p) (entry_bytes (get_or is p 0) (first_at cs p) (get_or cs p 0)) a
-      (put_same _ _ (ap (λ (i : ℕ). entry_bytes (get_or is p 0) i count) x ∙ ap (entry_bytes (get_or is p 0) (first_at cs p)) y) b))
+      adds_same _ _ (ap (entries_to is cs) (sym (add-one p)))
+      (adds_then (entries_to is cs p) (entry_bytes (get_or is p 0) (first_at cs p) (get_or cs p 0)) a
+      (adds_same _ _ (ap (λ (i : ℕ). entry_bytes (get_or is p 0) i count) x ∙ ap (entry_bytes (get_or is p 0) (first_at cs p)) y) b))
 
   pub first_none : 0 ≡ first_at cs 0
   unfolding first_at

@@ -1,6 +1,7 @@
 -- What private functions leave on the way; a reader may pass over it. Definitions only.
-use Rattle.std.specs.Prelude.{◌≡◌, not, cond, List, [], ◌++◌, ℕ, zero, suc, ◌+◌, ◌-◌, ◌≤◌, ◌<◌, eqb, ltb, length, take, drop, get_or, Float}
-use Rattle.refusal.specs.Numbers as refusal
+use Rattle.std.specs.Prelude.{◌≡◌, ⊤, Result, Ok, Err, not, cond, List, [], ◌++◌, ℕ, zero, suc, ◌+◌, ◌-◌, ◌≤◌, ◌<◌, eqb, ltb, length, take, drop, get_or, Float}
+use Rattle.refusal.specs.declared.Refusal.{Refusal}
+use Rattle.refusal.specs.declared.Refusal.TheVariants.{TooLarge, BadJob, OutputTooShort}
 use Rattle.math.specs.declared.Vec3.{Vec3}
 use Rattle.file_part.specs.Layout.{size_of}
 use Rattle.file_ok.specs.Verdict.{too_large}
@@ -12,13 +13,8 @@ use Rattle.obj_part.specs.Bytes.{vec_bytes, entry_bytes}
 use Rattle.obj_part.specs.File.{part_file}
 
 -- 3, 5 and 16
-unfoldable pub size_refusal : ℕ → ℕ → ℕ → ℕ → ℕ
-size_refusal v p job room = cond (too_large v p) refusal.too_large (cond (not (eqb job 128)) refusal.bad_job_of (cond (ltb room (size_of v p)) refusal.output_too_short 0))
-
--- and before them 14 and 15
-unfoldable pub tally_refusal : Tally → ℕ → ℕ → ℕ
-unfolding size_refusal
-tally_refusal t job room = cond (not (eqb t.refusal 0)) t.refusal (size_refusal t.corners t.polygons job room)
+unfoldable pub size_refusal : ℕ → ℕ → ℕ → ℕ → Result ⊤ Refusal
+size_refusal v p job room = cond (too_large v p) (Err TooLarge) (cond (not (eqb job 128)) (Err BadJob) (cond (ltb room (size_of v p)) (Err OutputTooShort) (Ok tt)))
 
 -- ---- the vertices of the first corners
 unfoldable pub rows_to : (ℕ → Vec3) → ℕ → List ℕ

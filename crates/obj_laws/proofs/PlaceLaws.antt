@@ -1,4 +1,7 @@
 -- What stands at each place of the part file of a text.
+use Rattle.std.proofs.Common.{Result, Ok, Err}
+use Rattle.std.specs.Bool.{⊤}
+use Rattle.std.specs.Result.{result_and}
 use mathlib.Core.Path.{◌≡◌, refl, sym, ap, ◌∙◌}
 use mathlib.Core.Bool.{Bool, true, false, not, cond}
 use mathlib.Core.List.{List, [], ◌∷◌, ◌++◌, append_assoc}
@@ -8,8 +11,9 @@ use native.Mathlib.Omega.{arith}
 use lib.Dec.{eqb, ltb}
 use lib.ListN.{length, take, drop, get_or, length-append}
 use lib.Seq.{drop-append-add, drop-drop, drop-cons, drop_at}
-use borrow.Author.Tests.{eqb-true, eqb-false}
-use Rattle.refusal.specs.Numbers as refusal
+use borrow.Author.Tests.{eqb-true}
+use Rattle.refusal.specs.declared.Refusal.{Refusal}
+use Rattle.refusal.specs.declared.Refusal.TheVariants.{TooLarge, BadJob, OutputTooShort}
 use Rattle.file_part.specs.Layout.{entry_at, size_of}
 use Rattle.file_ok.specs.Verdict.{too_large}
 use Rattle.file_ok.proofs.VerdictLaws.{small}
@@ -21,7 +25,7 @@ use Rattle.obj_laws.specs.Found.{no_face, face_of}
 
 -- ---- what is known of a text and a job that are not refused
 pub record Written (text job : List ℕ) : Type 0 where
-  pub lines : line_refusal text ≡ 0
+  pub lines : line_refusal text ≡ Ok tt
   pub vertices_to : length (corners_of text) ≤ 16384
   pub polygons_to_lem : length (faces_of text) ≤ 4096
   pub job_length : length job ≡ 128
@@ -30,9 +34,9 @@ small_enough : (v p : ℕ) → too_large v p ≡ false → (v ≤ 16384) × (p �
 unfolding too_large
 small_enough v p h = small v p h
 
-pub written : (text job : List ℕ) (room : ℕ) → obj_refusal text (length job) room ≡ 0 → Written text job
+pub written : (text job : List ℕ) (room : ℕ) → obj_refusal text (length job) room ≡ Ok tt → Written text job
 unfolding obj_refusal
-written text job room h = first (eqb (line_refusal text) 0) refl h
+written text job room h = first (line_refusal text) refl h
   where
     v : ℕ
     v = length (corners_of text)
@@ -40,20 +44,20 @@ written text job room h = first (eqb (line_refusal text) 0) refl h
     p : ℕ
     p = length (faces_of text)
 
-    rest : ℕ
-    rest = cond (ltb room (size_of v p)) refusal.output_too_short 0
+    rest : Result ⊤ Refusal
+    rest = cond (ltb room (size_of v p)) (Err OutputTooShort) (Ok tt)
 
-    third : (b : Bool) → line_refusal text ≡ 0 → (v ≤ 16384) × (p ≤ 4096) → eqb (length job) 128 ≡ b → cond (not b) refusal.bad_job_of rest ≡ 0 → Written text job
+    third : (b : Bool) → line_refusal text ≡ Ok tt → (v ≤ 16384) × (p ≤ 4096) → eqb (length job) 128 ≡ b → cond (not b) (Err BadJob) rest ≡ Ok tt → Written text job
     third true l s t e = record { lines = l; vertices_to = s.0; polygons_to_lem = s.1; job_length = eqb-true (length job) 128 t }
-    third false l s t e = absurd (omega (arith, e))
+    third false l s t e = absurd cc
 
-    second : (b : Bool) → line_refusal text ≡ 0 → too_large v p ≡ b → cond b refusal.too_large (cond (not (eqb (length job) 128)) refusal.bad_job_of rest) ≡ 0 → Written text job
-    second true l t e = absurd (omega (arith, e))
+    second : (b : Bool) → line_refusal text ≡ Ok tt → too_large v p ≡ b → cond b (Err TooLarge) (cond (not (eqb (length job) 128)) (Err BadJob) rest) ≡ Ok tt → Written text job
+    second true l t e = absurd cc
     second false l t e = third (eqb (length job) 128) l (small_enough v p t) refl e
 
-    first : (b : Bool) → eqb (line_refusal text) 0 ≡ b → cond (not b) (line_refusal text) (cond (too_large v p) refusal.too_large (cond (not (eqb (length job) 128)) refusal.bad_job_of rest)) ≡ 0 → Written text job
-    first true t e = second (too_large v p) (eqb-true (line_refusal text) 0 t) refl e
-    first false t e = absurd (eqb-false (line_refusal text) 0 t e)
+    first : (q : Result ⊤ Refusal) → line_refusal text ≡ q → result_and q (cond (too_large v p) (Err TooLarge) (cond (not (eqb (length job) 128)) (Err BadJob) rest)) ≡ Ok tt → Written text job
+    first (Ok x) t e = second (too_large v p) t refl e
+    first (Err d) t e = absurd cc
 
 -- ---- the two blocks, from a vertex or a polygon on
 vec_length : (text : List ℕ) (n : ℕ) → length (vec_bytes (vertex_of text n)) ≡ 24

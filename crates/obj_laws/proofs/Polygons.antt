@@ -1,4 +1,5 @@
 -- The part file of a text, read: its vertices and its polygons are the text's.
+use Rattle.std.proofs.Common.{Ok}
 use mathlib.Core.Path.{◌≡◌, sym, ap, ◌∙◌}
 use mathlib.Core.List.{List}
 use Prim.Native.Nat.{ℕ, zero, suc, ◌+◌, ◌-◌, ◌*◌, ◌≤◌, ◌<◌}
@@ -170,21 +171,21 @@ module _ (text job : List ℕ) (w : Written text job) where
 
 -- ---- where no refusal of item 1 is met, so that the file is written
 -- "length .. 24V + 80P + 144"
-pub same_length : (text job : List ℕ) (room : ℕ) → obj_refusal text (length job) room ≡ 0 → length (part_file text job) ≡ size_of (length (corners_of text)) (length (faces_of text))
+pub same_length : (text job : List ℕ) (room : ℕ) → obj_refusal text (length job) room ≡ Ok tt → length (part_file text job) ≡ size_of (length (corners_of text)) (length (faces_of text))
 same_length text job room h = file_length text job (written text job room h)
 
 -- "find exactly the polygons of the text, in the order of their `f` lines"
-pub same_polygons : (text job : List ℕ) (room : ℕ) → obj_refusal text (length job) room ≡ 0 → SamePolygons text (part_of (part_file text job))
+pub same_polygons : (text job : List ℕ) (room : ℕ) → obj_refusal text (length job) room ≡ Ok tt → SamePolygons text (part_of (part_file text job))
 same_polygons text job room h = written_polygons text job (written text job room h)
 
 -- "vertices repeated per polygon"
-pub same_vertices : (text job : List ℕ) (room : ℕ) → obj_refusal text (length job) room ≡ 0 → SameVertices text (part_of (part_file text job))
+pub same_vertices : (text job : List ℕ) (room : ℕ) → obj_refusal text (length job) room ≡ Ok tt → SameVertices text (part_of (part_file text job))
 same_vertices text job room h = written_vertices text job (written text job room h)
 
 -- "the job that the caller gives as 128 bytes", byte for byte, and as it is read
-pub same_bytes : (text job : List ℕ) (room : ℕ) → obj_refusal text (length job) room ≡ 0
+pub same_bytes : (text job : List ℕ) (room : ℕ) → obj_refusal text (length job) room ≡ Ok tt
     → take 128 (drop (entry_at (length (corners_of text)) (length (faces_of text))) (part_file text job)) ≡ job
 same_bytes text job room h = ap (take 128) (job_place text job) ∙ take_at job (trailer text job) 128 (written text job room h).job_length
 
-pub same_job : (text job : List ℕ) (room : ℕ) → obj_refusal text (length job) room ≡ 0 → SameJob job (part_of (part_file text job))
+pub same_job : (text job : List ℕ) (room : ℕ) → obj_refusal text (length job) room ≡ Ok tt → SameJob job (part_of (part_file text job))
 same_job text job room h = written_job text job (written text job room h)

@@ -1,4 +1,5 @@
 -- Which refusals the part file of a text can meet when it is checked.
+use Rattle.std.proofs.Common.{Ok}
 use mathlib.Core.Path.{◌≡◌, refl, sym, ap, ◌∙◌, subst}
 use mathlib.Core.Bool.{Bool, true, false, not, cond}
 use mathlib.Core.List.{List}
@@ -15,8 +16,10 @@ use Rattle.file_field.specs.Test.{is_point, zero_words}
 use Rattle.file_job_ok.specs.Rules.{job_good}
 use Rattle.file_part.specs.Layout.{entry_at}
 use Rattle.file_part.specs.Part.{count_at_of, part_of}
-use Rattle.file_ok.specs.declared.verdict.Verdict.{Verdict}
-use Rattle.file_ok.specs.declared.verdict.Verdict.TheVariants.{Accepted, BadJob, BadVertex, FlatPolygon, TooManyFaces}
+use Rattle.std.specs.Prelude.{⊤, Result, Ok, Err}
+use Rattle.std.specs.Result.{result_and}
+use Rattle.refusal.specs.declared.Refusal.{Refusal}
+use Rattle.refusal.specs.declared.Refusal.TheVariants.{BadJob, BadVertex, FlatPolygon, TooManyFaces}
 use Rattle.file_ok.specs.Rules.{vertex_good, vertices_good, surface_good, run_start, run_good, entry_good, polygon_good, polygons_good}
 use Rattle.file_ok.specs.Verdict.{number, too_large, fitted, content_verdict, verdict_of}
 use Rattle.solid_faces.specs.Faces.{some_flat, too_many_faces_of, body_verdict}
@@ -101,8 +104,8 @@ module _ (text job : List ℕ) (w : Written text job) where
 
   -- ---- so 5 and 6 decide
   content_is : content_verdict (part_file text job) (length (corners_of text)) (length (faces_of text)) ≡
-      cond (not (job_good (part_file text job) (entry_at (length (corners_of text)) (length (faces_of text))))) BadJob
-      (cond (not (vertices_good (part_file text job) (length (corners_of text)))) BadVertex Accepted)
+      cond (not (job_good (part_file text job) (entry_at (length (corners_of text)) (length (faces_of text))))) (Err BadJob)
+      (cond (not (vertices_good (part_file text job) (length (corners_of text)))) (Err BadVertex) (Ok tt))
   unfolding content_verdict
   content_is = rw polygons_good_lem
 
@@ -122,10 +125,10 @@ module _ (text job : List ℕ) (w : Written text job) where
       verdict_is ∙ content_is ∙ rw (job_good_in (part_file text job) job (trailer text job) _ w.job_length (job_place text job), vertices_are)
 
 -- ---- with the two tests of the body behind them
-abbrev or_body : Verdict → Bool → Bool → Verdict
-or_body v flat many = cond (eqb (number v) 0) (cond flat FlatPolygon (cond many TooManyFaces Accepted)) v
+abbrev or_body : Result ⊤ Refusal → Bool → Bool → Result ⊤ Refusal
+or_body v flat many = result_and v (cond flat (Err FlatPolygon) (cond many (Err TooManyFaces) (Ok tt)))
 
-one_of : (job vertices flat many : Bool) → CanMeet (number (or_body (cond (not job) BadJob (cond (not vertices) BadVertex Accepted)) flat many))
+one_of : (job vertices flat many : Bool) → CanMeet (number (or_body (cond (not job) (Err BadJob) (cond (not vertices) (Err BadVertex) (Ok tt))) flat many))
 unfolding number
 one_of false vertices flat many = bad_job
 one_of true false flat many = bad_vertex
@@ -139,14 +142,14 @@ body_is s = refl
 
 -- ---- where no refusal of item 1 is met, so that the file is written
 -- 5 where the job given is out of its rules, else 6 where a corner is, and none of 1, 2, 3, 4 and 7
-pub verdict_of_written : (text job : List ℕ) (room : ℕ) → obj_refusal text (length job) room ≡ 0 → verdict_of (part_file text job) ≡ text_verdict text job
+pub verdict_of_written : (text job : List ℕ) (room : ℕ) → obj_refusal text (length job) room ≡ Ok tt → verdict_of (part_file text job) ≡ text_verdict text job
 verdict_of_written text job room h = written_verdict text job (written text job room h)
 
 -- "The written file can meet 5, 6, 8 and 9 when it is checked"
-pub can_meet : (text job : List ℕ) (room : ℕ) → obj_refusal text (length job) room ≡ 0 → CanMeet (number (body_verdict (part_file text job)))
+pub can_meet : (text job : List ℕ) (room : ℕ) → obj_refusal text (length job) room ≡ Ok tt → CanMeet (number (body_verdict (part_file text job)))
 unfolding text_verdict
 can_meet text job room h =
     let s = part_file text job in
-    subst (λ (v : Verdict). CanMeet (number v))
-    (sym (body_is s ∙ ap (λ (v : Verdict). or_body v (some_flat (part_of s)) (too_many_faces_of (part_of s))) (verdict_of_written text job room h)))
+    subst (λ (v : Result ⊤ Refusal). CanMeet (number v))
+    (sym (body_is s ∙ ap (λ (v : Result ⊤ Refusal). or_body v (some_flat (part_of s)) (too_many_faces_of (part_of s))) (verdict_of_written text job room h)))
     (one_of (job_good job 0) (corners_good text) (some_flat (part_of s)) (too_many_faces_of (part_of s)))

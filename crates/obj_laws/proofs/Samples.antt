@@ -1,4 +1,5 @@
 -- Small texts, computed.
+use Rattle.std.proofs.Common.{Ok, Err}
 use mathlib.Core.Path.{◌≡◌, refl}
 use mathlib.Core.List.{List, [], ◌∷◌}
 use Prim.Native.Nat.{ℕ}
@@ -10,7 +11,7 @@ use Rattle.obj_number.specs.Whole.{is_digit, all_digits, value_from, value_of, i
 use Rattle.obj_number.specs.Decimal.{is_sign, is_minus, unsigned, digits_of, is_unsigned, is_decimal, nearest_of, decimal_of}
 use Rattle.obj_line.specs.Split.{piece, split, lines_of, squeeze, separate, fields_of}
 use Rattle.obj_line.specs.Form.{vertex_form, is_positive, all_positive, face_form, group_form, fields_form, form_of, largest}
-use Rattle.refusal.specs.Numbers.{bad_job_of, bad_line, undefined_vertex, output_too_short}
+use Rattle.refusal.specs.declared.Refusal.TheVariants.{BadJob, BadLine, UndefinedVertex, OutputTooShort}
 use Rattle.obj_text.specs.Text.{forms_of, refusal_from, line_refusal, vertices_from, vertices_of, faces_from, faces_of, corners_from, corners_of, vertex_of}
 use Rattle.obj_part.specs.File.{obj_refusal}
 use Rattle.obj_laws.specs.Found.{face_of}
@@ -21,11 +22,11 @@ triangle = bytes "# a triangle\nv 0 0 -0\nv 1 0 0\nv 0 +.5 0\n\ng 7\nf 1 02  3"
 
 -- none; one byte of room too few; a job of 127 bytes; a number not yet defined, before a line of no form; a line of no form, before such a number
 refusals :
-    (obj_refusal triangle 128 296 ≡ 0)
-    × (obj_refusal triangle 128 295 ≡ output_too_short)
-    × (obj_refusal triangle 127 295 ≡ bad_job_of)
-    × (obj_refusal (bytes "v 0 0 0\nf 1 1 2\nv 0 0") 128 296 ≡ undefined_vertex)
-    × (obj_refusal (bytes "v 0 0 0 \nf 1 1 2") 128 296 ≡ bad_line)
+    (obj_refusal triangle 128 296 ≡ Ok tt)
+    × (obj_refusal triangle 128 295 ≡ Err OutputTooShort)
+    × (obj_refusal triangle 127 295 ≡ Err BadJob)
+    × (obj_refusal (bytes "v 0 0 0\nf 1 1 2\nv 0 0") 128 296 ≡ Err UndefinedVertex)
+    × (obj_refusal (bytes "v 0 0 0 \nf 1 1 2") 128 296 ≡ Err BadLine)
 unfolding triangle obj_refusal too_large line_refusal forms_of refusal_from faces_of faces_from corners_of corners_from lines_of split piece squeeze separate fields_of form_of fields_form vertex_form face_form group_form all_positive is_positive largest is_decimal is_unsigned unsigned is_sign digits_of before after all_digits is_digit is_whole value_of value_from
 refusals = (refl, refl, refl, refl, refl)
 

@@ -1,4 +1,5 @@
 -- The field after a place of a line, and what it tells as a number.
+use Rattle.std.proofs.Common.{Option, Some, None}
 use mathlib.Core.Path.{◌≡◌, refl, sym, ap, ◌∙◌}
 use mathlib.Core.Bool.{Bool, true, false, cond}
 use mathlib.Core.List.{List, [], ◌∷◌}
@@ -9,10 +10,6 @@ use native.Mathlib.Omega.{arith}
 use lib.ListN.{length, take, drop, get_or, length-drop, drop_of_length-le}
 use lib.Seq.{drop-cons, drop-drop, take-nil}
 use lib.Ieee.{Float}
-use Rattle.obj_number.specs.declared.whole.Number.{Number}
-use Rattle.obj_number.specs.declared.whole.Number.TheVariants as Number
-use Rattle.obj_number.specs.declared.decimal.Real.{Real}
-use Rattle.obj_number.specs.declared.decimal.Real.TheVariants as Real
 use Rattle.obj_number.specs.Cut.{before}
 use Rattle.obj_number.specs.Whole.{is_whole, value_of, capped, whole_field}
 use Rattle.obj_number.specs.Decimal.{is_decimal, decimal_of, decimal_field}
@@ -95,19 +92,19 @@ pub record RealTold (f : List ℕ) (x : Float) : Type 0 where
   pub good : is_decimal f ≡ true
   pub value : x ≡ decimal_of f
 
-pub real_is : (f : List ℕ) (r : Real) (x : Float) → r ≡ decimal_field f → r ≡ Real.Is x → RealTold f x
+pub real_is : (f : List ℕ) (r : Option Float) (x : Float) → r ≡ decimal_field f → r ≡ Some x → RealTold f x
 unfolding decimal_field
 real_is f r x e h = go (is_decimal f) refl (sym h ∙ e)
   where
-    go : (b : Bool) → is_decimal f ≡ b → Real.Is x ≡ cond b (Real.Is (decimal_of f)) Real.Not → RealTold f x
+    go : (b : Bool) → is_decimal f ≡ b → Some x ≡ cond b (Some (decimal_of f)) None → RealTold f x
     go true d k = record { good = d; value = cc }
     go false d k = let z : ◌≡◌ {A = ℕ} 0 1 = cc in absurd (omega arith)
 
-pub real_not : (f : List ℕ) (r : Real) → r ≡ decimal_field f → r ≡ Real.Not → is_decimal f ≡ false
+pub real_not : (f : List ℕ) (r : Option Float) → r ≡ decimal_field f → r ≡ None → is_decimal f ≡ false
 unfolding decimal_field
 real_not f r e h = go (is_decimal f) (sym h ∙ e)
   where
-    go : (b : Bool) → Real.Not ≡ cond b (Real.Is (decimal_of f)) Real.Not → b ≡ false
+    go : (b : Bool) → None ≡ cond b (Some (decimal_of f)) None → b ≡ false
     go true k = let z : ◌≡◌ {A = ℕ} 0 1 = cc in absurd (omega arith)
     go false k = refl
 
@@ -116,18 +113,18 @@ pub record WholeTold (f : List ℕ) (n : ℕ) : Type 0 where
   pub good : is_whole f ≡ true
   pub value : n ≡ capped (value_of f)
 
-pub whole_is : (f : List ℕ) (r : Number) (n : ℕ) → r ≡ whole_field f → r ≡ Number.Is n → WholeTold f n
+pub whole_is : (f : List ℕ) (r : Option ℕ) (n : ℕ) → r ≡ whole_field f → r ≡ Some n → WholeTold f n
 unfolding whole_field
 whole_is f r n e h = go (is_whole f) refl (sym h ∙ e)
   where
-    go : (b : Bool) → is_whole f ≡ b → Number.Is n ≡ cond b (Number.Is (capped (value_of f))) Number.Not → WholeTold f n
+    go : (b : Bool) → is_whole f ≡ b → Some n ≡ cond b (Some (capped (value_of f))) None → WholeTold f n
     go true d k = record { good = d; value = cc }
     go false d k = let z : ◌≡◌ {A = ℕ} 0 1 = cc in absurd (omega arith)
 
-pub whole_not : (f : List ℕ) (r : Number) → r ≡ whole_field f → r ≡ Number.Not → is_whole f ≡ false
+pub whole_not : (f : List ℕ) (r : Option ℕ) → r ≡ whole_field f → r ≡ None → is_whole f ≡ false
 unfolding whole_field
 whole_not f r e h = go (is_whole f) (sym h ∙ e)
   where
-    go : (b : Bool) → Number.Not ≡ cond b (Number.Is (capped (value_of f))) Number.Not → b ≡ false
+    go : (b : Bool) → None ≡ cond b (Some (capped (value_of f))) None → b ≡ false
     go true k = let z : ◌≡◌ {A = ℕ} 0 1 = cc in absurd (omega arith)
     go false k = refl

@@ -1,4 +1,6 @@
 -- The form of a line, from what is known of its fields.
+use Rattle.std.proofs.Common.{Option, Result, Ok, Err}
+use Rattle.std.specs.Result.{OkIff, result_ok}
 use mathlib.Core.Path.{◌≡◌, refl, sym, ap, ◌∙◌}
 use mathlib.Core.Bool.{Bool, true, false, ◌&&◌, cond}
 use mathlib.Core.List.{List, [], ◌∷◌, map}
@@ -14,9 +16,8 @@ use Rattle.obj_number.specs.Cut.{before, after}
 use Rattle.obj_number.specs.Whole.{is_whole, value_of, capped}
 use Rattle.obj_number.specs.Decimal.{is_sign, unsigned, digits_of, is_unsigned, is_decimal, decimal_of}
 use Rattle.obj_line.specs.declared.line.Line.{Line}
-use Rattle.obj_line.specs.declared.line.Line.TheVariants as Line
 use Rattle.obj_line.specs.Form.{face, other, vertex_form, is_positive, all_positive, face_form, group_form, fields_form, form_of, largest, line_of}
-use Rattle.obj_line.specs.Work.{fields_after, first, others, face_line}
+use Rattle.obj_line.specs.Work.{fields_after, first, others, face_line, or_other}
 use Rattle.obj_line.proofs.SplitLaws.{fields_are}
 use Rattle.obj_line.proofs.FieldLaws.{RealTold, WholeTold}
 
@@ -195,7 +196,7 @@ group_not [] h = refl
 group_not (n ∷ []) h = rw h
 group_not (n ∷ m ∷ fs) h = refl
 
-pub group_large : (fs : List (List ℕ)) (n : ℕ) → WholeTold (first fs) n → 2 ^ 32 ≤ n → Line.Other ≡ line_of (group_form fs)
+group_large : (fs : List (List ℕ)) (n : ℕ) → WholeTold (first fs) n → 2 ^ 32 ≤ n → Line.Other ≡ line_of (group_form fs)
 unfolding first group_form line_of capped
 group_large [] n t h = refl
 group_large (f ∷ []) n t h =
@@ -203,7 +204,7 @@ group_large (f ∷ []) n t h =
     rw (and_last (is_whole f) (ltb (value_of f) (2 ^ 32)) (le-ltb (value_of f) (2 ^ 32) z))
 group_large (f ∷ m ∷ fs) n t h = refl
 
-pub group_is : (fs : List (List ℕ)) (n : ℕ) → WholeTold (first fs) n → others fs ≡ [] → n < 2 ^ 32 → Line.Group n ≡ line_of (group_form fs)
+group_is : (fs : List (List ℕ)) (n : ℕ) → WholeTold (first fs) n → others fs ≡ [] → n < 2 ^ 32 → Line.Group n ≡ line_of (group_form fs)
 unfolding first others group_form line_of capped
 group_is [] n t e h = absurd (contrary (is_whole []) t.good empty_whole)
 group_is (f ∷ []) n t e h =
@@ -211,6 +212,11 @@ group_is (f ∷ []) n t e h =
     let z : value_of f < 2 ^ 32 = omega arith in
     rw (t.good, lt-ltb (value_of f) (2 ^ 32) z) (ap Line.Group same)
 group_is (f ∷ m ∷ fs) n t e h = absurd (cons_not m fs e)
+
+-- a number as a u32, if it is one
+pub group_fits : {E : Type 0} (fs : List (List ℕ)) (n : ℕ) (r : Result ℕ E) (o : Option ℕ) → WholeTold (first fs) n → others fs ≡ [] → OkIff r (n < 2 ^ 32) n → o ≡ result_ok r → or_other Line.Group o ≡ line_of (group_form fs)
+group_fits fs n (Ok i) o t e h k = ap (or_other Line.Group) k ∙ ap Line.Group h.1 ∙ group_is fs n t e h.0
+group_fits fs n (Err d) o t e h k = ap (or_other Line.Group) k ∙ group_large fs n t (omega (arith, h))
 
 -- ---- a line, by its first field
 pub line_empty : (l : List ℕ) → length l ≡ 0 → Line.Skipped ≡ line_of (form_of l)

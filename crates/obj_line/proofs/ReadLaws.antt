@@ -1,4 +1,5 @@
 -- A line as it is read, with the numbers of a face in a table.
+use Rattle.std.proofs.Common.{Option, Some, None, MatchOption}
 use mathlib.Core.Path.{◌≡◌, refl, sym, ap, ◌∙◌, subst}
 use mathlib.Core.Bool.{Bool, true, false, ◌&&◌, cond}
 use mathlib.Core.List.{List, [], ◌∷◌, map}
@@ -10,14 +11,22 @@ use lib.Seq.{sets}
 use borrow.Author.Tests.{eq-eqb, ne_eqb}
 use Rattle.obj_number.specs.Whole.{value_of, capped}
 use Rattle.obj_line.specs.declared.line.Line.{Line}
-use Rattle.obj_line.specs.declared.line.Line.TheVariants as Line
 use Rattle.obj_line.specs.Form.{Form, vertex, face, group, skipped, other, all_positive, face_form, form_of, line_of, numbers_of, Read}
-use Rattle.obj_line.specs.Work.{cell_of, vertex_line}
+use Rattle.obj_line.specs.Work.{cell_of, or_other, vertex_line}
 use Rattle.obj_line.proofs.FieldLaws.{WholeTold}
 use Rattle.obj_line.proofs.KindLaws.{Kind, form_kind}
 
 clash : {A : Type 0} → ◌≡◌ {A = ℕ} 0 1 → A
 clash z = absurd (omega arith)
+
+-- ---- a line from what was read of it
+pub line_from : {A : Type 0} (line : A → Line) (o : Option A) (r : Line) → MatchOption o (r ≡ Line.Other) (λ x. r ≡ line x) → r ≡ or_other line o
+line_from line (Some x) r h = h
+line_from line None r h = h
+
+pub read_from : {A : Type 0} (line : A → Line) (o : Option A) (r : Line) (f : Form) (ns ns' : List ℕ) (used : ℕ) → MatchOption o (r ≡ Line.Other) (λ x. r ≡ line x)
+    → Read f ns used ns' (or_other line o) → Read f ns used ns' r
+read_from line o r f ns ns' used h k = subst (λ (x : Line). Read f ns used ns' x) (sym (line_from line o r h)) k
 
 -- ---- a line of another form: nothing is told of the table
 is_other : (f : Form) → Line.Other ≡ line_of f → f ≡ other
@@ -40,7 +49,7 @@ no_numbers b (group i) k h = refl
 no_numbers b skipped k h = refl
 no_numbers b other k h = refl
 
-pub read_plain : (l ns : List ℕ) (used : ℕ) (r : Line) → (get_or l 0 0 ≡ 102 → ⊥) → r ≡ line_of (form_of l) → Read (form_of l) ns used ns r
+read_plain : (l ns : List ℕ) (used : ℕ) (r : Line) → (get_or l 0 0 ≡ 102 → ⊥) → r ≡ line_of (form_of l) → Read (form_of l) ns used ns r
 read_plain l ns used r h e = record {
   line = e;
   same_length = refl;
@@ -73,9 +82,6 @@ read_face fs ns ns' used r l e s = record { line = e; same_length = l; stored = 
     go : (b : Bool) → (cond b (face (map value_of fs)) other ≡ other → ⊥) → ns' ≡ sets ns used (map capped (numbers_of (cond b (face (map value_of fs)) other)))
     go true h = s ∙ ap (sets ns used) (map_cells fs)
     go false h = absurd (h refl)
-
-pub cells_start : (ns : List ℕ) (used : ℕ) (l : List ℕ) → sets ns (used + 0) l ≡ sets ns used l
-cells_start ns used l = ap (λ (i : ℕ). sets ns i l) (omega arith)
 
 pub cells_more : (fs gs : List (List ℕ)) (f : List ℕ) (ns : List ℕ) (used i n : ℕ) → fs ≡ f ∷ gs → WholeTold f n
     → sets (set ns (used + i) n) (used + (i + 1)) (map cell_of gs) ≡ sets ns (used + i) (map cell_of fs)

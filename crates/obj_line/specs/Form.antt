@@ -5,7 +5,6 @@ use Rattle.math.specs.declared.Vec3.{Vec3}
 use Rattle.obj_number.specs.Whole.{is_whole, value_of, capped}
 use Rattle.obj_number.specs.Decimal.{is_decimal, decimal_of}
 use Rattle.obj_line.specs.declared.line.Line.{Line}
-use Rattle.obj_line.specs.declared.line.Line.TheVariants as Line
 use Rattle.obj_line.specs.Split.{fields_of}
 
 -- a vertex, the vertex numbers of a face, a face index, a line to skip, or a line of any other form

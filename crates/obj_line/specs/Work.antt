@@ -1,8 +1,7 @@
 -- What private functions leave on the way; a reader may pass over it. Definitions only.
-use Rattle.std.specs.Prelude.{◌≡◌, ◌&&◌, cond, List, [], ◌∷◌, ℕ, suc, ◌+◌, ◌-◌, ◌≤◌, ◌<◌, max, eqb, leb, length, take, drop, get_or}
+use Rattle.std.specs.Prelude.{◌≡◌, ◌&&◌, cond, List, [], ◌∷◌, ℕ, suc, ◌+◌, ◌-◌, ◌≤◌, ◌<◌, max, eqb, leb, length, take, drop, get_or, Option, Some, None}
 use Rattle.obj_number.specs.Whole.{value_of, capped}
 use Rattle.obj_line.specs.declared.line.Line.{Line}
-use Rattle.obj_line.specs.declared.line.Line.TheVariants as Line
 use Rattle.obj_line.specs.Split.{split, squeeze}
 use Rattle.obj_line.specs.Form.{is_positive, form_of, line_of}
 
@@ -42,6 +41,11 @@ face_line count most (f ∷ fs) = cond (is_positive f) (face_line (count + 1) (m
 -- the number of a field, as the table has it
 unfoldable pub cell_of : List ℕ → ℕ
 cell_of f = capped (value_of f)
+
+-- a line from what was read of it, and of any other form where nothing was
+abbrev pub or_other : {A : Type 0} → (A → Line) → Option A → Line
+or_other line (Some x) = line x
+or_other line None = Line.Other
 
 -- a line that begins with a v, 118; any other is passed over
 unfoldable pub vertex_line : List ℕ → Line

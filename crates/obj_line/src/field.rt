@@ -15,14 +15,12 @@ pub struct Span {
 fn spaces(s: &[u8]) -> usize
     ensures { result ≡ spaces_of s.now }
 {
-    let mut i: usize = 0;
-    while i < s.len() {
-        if s[i] != b' ' {
+    for (i, &b) in s.iter().enumerate() {
+        if b != b' ' {
             return i;
         }
-        i += 1;
     }
-    i
+    s.len()
 }
 
 // The field after the place `at`, where a field has ended; empty at the line's end.
@@ -38,5 +36,5 @@ pub fn next(line: &[u8], at: usize) -> Span
     let start = at + 1;
     let from = start + spaces(&line[start..]);
     let to = from + find(&line[from..], b' ');
-    Span { from: from, to: to }
+    Span { from, to }
 }

@@ -1,13 +1,13 @@
 // What a line of OBJ text is.
-ghost use Rattle.std.specs.Prelude.{◌≡◌, ◌+◌, ◌≤◌, max, length, drop};
+ghost use Rattle.std.specs.Prelude.{◌≡◌, ◌+◌, ◌≤◌, length, drop};
 ghost use Rattle.obj_line.specs.Form.{vertex_form, face_form, group_form, form_of, line_of, Read};
-ghost use Rattle.obj_line.specs.Work.{fields_after, vertex_line};
+ghost use Rattle.obj_line.specs.Work.{fields_after, or_other, vertex_line};
 
 use crate::field::next;
 use math::Vec3;
 use obj_number::cut::find;
-use obj_number::decimal::{Real, decimal};
-use obj_number::whole::{Number, whole};
+use obj_number::decimal::decimal;
+use obj_number::whole::whole;
 
 // The vertex numbers of a face: how many, and the largest, up to 2^63.
 #[derive(Clone, Copy)]
@@ -26,96 +26,61 @@ pub enum Line {
     Other,
 }
 
-// A line that begins with a v.
-fn vertex_line(line: &[u8]) -> Line
-    ensures { result ≡ line_of (vertex_form (fields_after (drop 1 line.now))) }
+// The vertex of a line that begins with a v; none where it is of any other form.
+fn vertex_line(line: &[u8]) -> Option<Vec3>
+    ensures { or_other Line.Vertex result ≡ line_of (vertex_form (fields_after (drop 1 line.now))) }
 {
     let a = next(line, 1);
-    let a_from = a.from;
-    let a_to = a.to;
-    let Real::Is(x) = decimal(&line[a_from..a_to]) else {
-        return Line::Other;
-    };
-    let b = next(line, a_to);
-    let b_from = b.from;
-    let b_to = b.to;
-    let Real::Is(y) = decimal(&line[b_from..b_to]) else {
-        return Line::Other;
-    };
-    let c = next(line, b_to);
-    let c_from = c.from;
-    let c_to = c.to;
-    let Real::Is(z) = decimal(&line[c_from..c_to]) else {
-        return Line::Other;
-    };
-    if c_to < line.len() {
-        return Line::Other;
+    let x = decimal(&line[a.from..a.to])?;
+    let b = next(line, a.to);
+    let y = decimal(&line[b.from..b.to])?;
+    let c = next(line, b.to);
+    let z = decimal(&line[c.from..c.to])?;
+    if c.to < line.len() {
+        return None;
     }
-    Line::Vertex(Vec3 { x: x, y: y, z: z })
+    Some(Vec3 { x, y, z })
 }
 
-// The larger of two numbers.
-fn larger(a: u64, b: u64) -> u64
-    ensures { result ≡ max a b }
-{
-    if a < b {
-        return b;
-    }
-    a
-}
-
-// A line that begins with an f. Its numbers stand in the table from the place `used` on.
-fn face_line(line: &[u8], numbers: &mut [u64], used: usize) -> Line
+// The corners of a line that begins with an f; none where it is of any other form. Its numbers stand in the table from the place `used` on.
+fn face_line(line: &[u8], numbers: &mut [u64], used: usize) -> Option<Corners>
     requires { used + 64 ≤ length numbers.old }
-    ensures { Read (face_form (fields_after (drop 1 line.now))) numbers.old used numbers.new result }
+    ensures { Read (face_form (fields_after (drop 1 line.now))) numbers.old used numbers.new (or_other Line.Face result) }
 {
     let mut at: usize = 1;
     let mut count: usize = 0;
     let mut largest: u64 = 0;
+    // A while: the next field begins where this one ends.
     while at < line.len() {
         if count == 64 {
-            return Line::Other;
+            return None;
         }
         let f = next(line, at);
-        let from = f.from;
-        let to = f.to;
-        let Number::Is(n) = whole(&line[from..to]) else {
-            return Line::Other;
-        };
+        let n = whole(&line[f.from..f.to])?;
         if n == 0 {
-            return Line::Other;
+            return None;
         }
         numbers[used + count] = n;
-        largest = larger(largest, n);
+        largest = largest.max(n);
         count += 1;
-        at = to;
+        at = f.to;
     }
     if count < 3 {
-        return Line::Other;
+        return None;
     }
-    Line::Face(Corners {
-        count: count,
-        largest: largest,
-    })
+    Some(Corners { count, largest })
 }
 
-// A line that begins with a g.
-fn group_line(line: &[u8]) -> Line
-    ensures { result ≡ line_of (group_form (fields_after (drop 1 line.now))) }
+// The face index of a line that begins with a g; none where it is of any other form.
+fn group_line(line: &[u8]) -> Option<u32>
+    ensures { or_other Line.Group result ≡ line_of (group_form (fields_after (drop 1 line.now))) }
 {
     let f = next(line, 1);
-    let from = f.from;
-    let to = f.to;
-    if to < line.len() {
-        return Line::Other;
+    if f.to < line.len() {
+        return None;
     }
-    let Number::Is(n) = whole(&line[from..to]) else {
-        return Line::Other;
-    };
-    if 0x1_0000_0000 <= n {
-        return Line::Other;
-    }
-    Line::Group(n as u32)
+    let n = whole(&line[f.from..f.to])?;
+    u32::try_from(n).ok()
 }
 
 // What a line is. The numbers of a face stand in the table from the place `used` on.
@@ -133,16 +98,12 @@ pub fn read_line(line: &[u8], numbers: &mut [u64], used: usize) -> Line
     if find(line, b' ') != 1 {
         return Line::Other;
     }
-    if b == b'v' {
-        return vertex_line(line);
+    match b {
+        b'v' => vertex_line(line).map_or(Line::Other, Line::Vertex),
+        b'f' => face_line(line, numbers, used).map_or(Line::Other, Line::Face),
+        b'g' => group_line(line).map_or(Line::Other, Line::Group),
+        _ => Line::Other,
     }
-    if b == b'f' {
-        return face_line(line, numbers, used);
-    }
-    if b == b'g' {
-        return group_line(line);
-    }
-    Line::Other
 }
 
 // A line if it begins with a v; any other is passed over.
@@ -158,5 +119,5 @@ pub fn read_vertex(line: &[u8]) -> Line
     if find(line, b' ') != 1 {
         return Line::Other;
     }
-    vertex_line(line)
+    vertex_line(line).map_or(Line::Other, Line::Vertex)
 }

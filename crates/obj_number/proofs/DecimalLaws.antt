@@ -1,6 +1,7 @@
 -- A decimal of at most 15 digits is the quotient of two whole numbers that f64 holds, so that one division gives its nearest f64.
+use Rattle.std.proofs.Common.{Option, Some, None}
 use mathlib.Core.Path.{◌≡◌, refl, sym, ap, ◌∙◌, subst}
-use mathlib.Core.Bool.{Bool, true, false, not, ◌&&◌, cond}
+use mathlib.Core.Bool.{Bool, true, false, ◌&&◌, cond}
 use mathlib.Core.List.{List, [], ◌∷◌}
 use Prim.Native.Nat.{ℕ, zero, suc, zero-le, ◌+◌, ◌-◌, ◌*◌, ◌^◌, ◌≤◌, ◌<◌, min}
 use native.Mathlib.Nat.{le_trans, le_of_eq, le_of_lt, lt_of_lt_of_le, lt_of_le_of_lt, lt_irrefl, mul-one, one-mul, zero-mul, mul_assoc, mul_comm, mul_left_comm, mul-pos, mul-lt-mul_of_pos_right, pow-le-pow_right}
@@ -14,10 +15,6 @@ use lib.Ieee.Exact.{HasValue, round_exact}
 use lib.Ieee.Fits.{down_pos}
 use lib.Ieee.Scale.{round_same}
 use borrow.Author.Tests.{eq-eqb, ne_eqb, le-leb, lt-leb}
-use Rattle.obj_number.specs.declared.decimal.Real.{Real}
-use Rattle.obj_number.specs.declared.decimal.Real.TheVariants.{Is, Not}
-use Rattle.obj_number.specs.declared.whole.Number.{Number}
-use Rattle.obj_number.specs.declared.whole.Number.TheVariants as Number
 use Rattle.obj_number.specs.Cut.{before, after}
 use Rattle.obj_number.specs.Whole.{all_digits, value_from, value_of, capped, digits_field}
 use Rattle.obj_number.specs.Decimal.{is_sign, is_minus, unsigned, digits_of, is_unsigned, is_decimal, nearest_of, decimal_of, unsigned_field, decimal_field}
@@ -97,7 +94,7 @@ and_false_right true b h = h
 and_false_right false b h = refl
 
 -- the tests, one by one
-turned_back : (l : List ℕ) → is_unsigned l ≡ false → unsigned_field l ≡ Not
+turned_back : (l : List ℕ) → is_unsigned l ≡ false → unsigned_field l ≡ None
 unfolding unsigned_field
 turned_back l h = rw h
 
@@ -125,39 +122,39 @@ module _ (s : List ℕ) (point rest : ℕ) (P : point ≡ length (before 46 s)) 
   unfolding digits_of
   count_is = ap (λ (k : ℕ). k + (length s - rest)) P ∙ ap (λ (k : ℕ). length (before 46 s) + k) places_are ∙ sym (length-append (before 46 s) (after 46 s))
 
-  pub no_digits : point + (length s - rest) ≡ 0 → Not ≡ unsigned_field s
+  pub no_digits : point + (length s - rest) ≡ 0 → None ≡ unsigned_field s
   unfolding is_unsigned
   no_digits h =
       let z : length (digits_of s) < 1 = omega (arith, count_is) in
       sym (turned_back s (fails_short (leb 1 (length (digits_of s))) (leb (length (digits_of s)) 15) (all_digits (digits_of s)) (lt-leb 1 (length (digits_of s)) z)))
 
-  pub many_digits : 15 < point + (length s - rest) → Not ≡ unsigned_field s
+  pub many_digits : 15 < point + (length s - rest) → None ≡ unsigned_field s
   unfolding is_unsigned
   many_digits h =
       let z : 15 < length (digits_of s) = omega (arith, count_is) in
       sym (turned_back s (fails_long (leb 1 (length (digits_of s))) (leb (length (digits_of s)) 15) (all_digits (digits_of s)) (lt-leb (length (digits_of s)) 15 z)))
 
-  no_number : all_digits (digits_of s) ≡ false → Not ≡ unsigned_field s
+  no_number : all_digits (digits_of s) ≡ false → None ≡ unsigned_field s
   unfolding is_unsigned
   no_number h = sym (turned_back s (fails_digits (leb 1 (length (digits_of s))) (leb (length (digits_of s)) 15) (all_digits (digits_of s)) h))
 
-  pub bad_front : (r : Number) → r ≡ digits_field 0 (take point s) → r ≡ Number.Not → Not ≡ unsigned_field s
+  pub bad_front : (r : Option ℕ) → r ≡ digits_field 0 (take point s) → r ≡ None → None ≡ unsigned_field s
   unfolding digits_of
   bad_front r e h =
       let not : all_digits (before 46 s) ≡ false = field_is_not 0 (before 46 s) (ap (digits_field 0) (sym front) ∙ sym e ∙ h) in
       no_number (digits_append (before 46 s) (after 46 s) ∙ ap (λ (b : Bool). b && all_digits (after 46 s)) not)
 
-  pub bad_tail : (n : ℕ) (r : Number) → r ≡ digits_field n (drop rest s) → r ≡ Number.Not → Not ≡ unsigned_field s
+  pub bad_tail : (n : ℕ) (r : Option ℕ) → r ≡ digits_field n (drop rest s) → r ≡ None → None ≡ unsigned_field s
   unfolding digits_of
   bad_tail n r e h =
       let not : all_digits (after 46 s) ≡ false = field_is_not n (after 46 s) (ap (digits_field n) (sym tail) ∙ sym e ∙ h) in
       no_number (digits_append (before 46 s) (after 46 s) ∙ and_false_right (all_digits (before 46 s)) (all_digits (after 46 s)) not)
 
-  pub front_le : (n : ℕ) (r : Number) → r ≡ digits_field 0 (take point s) → r ≡ Number.Is n → n ≤ 2 ^ 63
+  pub front_le : (n : ℕ) (r : Option ℕ) → r ≡ digits_field 0 (take point s) → r ≡ Some n → n ≤ 2 ^ 63
   front_le n r e h = le_trans (le_of_eq (field_is 0 (take point s) n (sym e ∙ h)).value) (capped_le (value_from 0 (take point s)))
 
   -- both parts are digits
-  module _ (n m : ℕ) (q r : Number) (Q : q ≡ digits_field 0 (take point s)) (q-is : q ≡ Number.Is n) (E : r ≡ digits_field n (drop rest s)) (r-is : r ≡ Number.Is m)
+  module _ (n m : ℕ) (q r : Option ℕ) (Q : q ≡ digits_field 0 (take point s)) (q-is : q ≡ Some n) (E : r ≡ digits_field n (drop rest s)) (r-is : r ≡ Some m)
       (some : point + (length s - rest) ≡ 0 → ⊥) (few : point + (length s - rest) ≤ 15) where
     told_front : Told 0 (before 46 s) n
     told_front = field_is 0 (before 46 s) n (ap (digits_field 0) (sym front) ∙ sym Q ∙ q-is)
@@ -185,17 +182,17 @@ module _ (s : List ℕ) (point rest : ℕ) (P : point ≡ length (before 46 s)) 
     pub small : m < 10 ^ 15
     small = lt_of_le_of_lt (le_of_eq value_is) bound
 
-    pub read_right : (x : Float) → x ≡ round binary64 false m (10 ^ (length s - rest)) → Is x ≡ unsigned_field s
+    pub read_right : (x : Float) → x ≡ round binary64 false m (10 ^ (length s - rest)) → Some x ≡ unsigned_field s
     unfolding unsigned_field is_unsigned nearest_of value_of
     read_right x e =
         let one : 1 ≤ length (digits_of s) = omega (arith, count_is, some) in
         let most : length (digits_of s) ≤ 15 = omega (arith, count_is) in
         let same : x ≡ round binary64 false (value_from 0 (digits_of s)) (10 ^ length (after 46 s)) =
         e ∙ ap (λ (k : ℕ). round binary64 false k (10 ^ (length s - rest))) value_is ∙ ap (λ (k : ℕ). round binary64 false (value_from 0 (digits_of s)) (10 ^ k)) places_are in
-        rw (le-leb 1 (length (digits_of s)) one, le-leb (length (digits_of s)) 15 most, all) (ap Is same)
+        rw (le-leb 1 (length (digits_of s)) one, le-leb (length (digits_of s)) 15 most, all) (ap Some same)
 
 -- ---- the sign in front
-pub empty_field : (l : List ℕ) → length l ≡ 0 → Not ≡ decimal_field l
+pub empty_field : (l : List ℕ) → length l ≡ 0 → None ≡ decimal_field l
 unfolding decimal_field is_decimal unsigned is_unsigned digits_of before after is_sign
 empty_field [] h = refl
 empty_field (b ∷ l) h = absurd (omega arith)
@@ -212,35 +209,35 @@ module _ (l : List ℕ) (from : ℕ) (F : from ≡ cond (is_sign (get_or l 0 0))
       go true = omega (arith, h)
       go false = zero-le
 
-  pub sign_not : (r : Real) → r ≡ unsigned_field (drop from l) → r ≡ Not → Not ≡ decimal_field l
+  pub sign_not : (r : Option Float) → r ≡ unsigned_field (drop from l) → r ≡ None → None ≡ decimal_field l
   unfolding decimal_field is_decimal unsigned_field
   sign_not r e h = go (is_unsigned (unsigned l)) (sym h ∙ e ∙ ap unsigned_field sign_drop)
     where
-      go : (b : Bool) → Not ≡ cond b (Is (nearest_of false (unsigned l))) Not → Not ≡ cond b (Is (decimal_of l)) Not
+      go : (b : Bool) → None ≡ cond b (Some (nearest_of false (unsigned l))) None → None ≡ cond b (Some (decimal_of l)) None
       go true k = let z : ◌≡◌ {A = ℕ} 0 1 = cc in absurd (omega arith)
       go false k = refl
 
-  sign_is : (r : Real) (x : Float) → r ≡ unsigned_field (drop from l) → r ≡ Is x → (is_unsigned (unsigned l) ≡ true) × (x ≡ nearest_of false (unsigned l))
+  sign_is : (r : Option Float) (x : Float) → r ≡ unsigned_field (drop from l) → r ≡ Some x → (is_unsigned (unsigned l) ≡ true) × (x ≡ nearest_of false (unsigned l))
   unfolding unsigned_field
   sign_is r x e h = go (is_unsigned (unsigned l)) (sym h ∙ e ∙ ap unsigned_field sign_drop)
     where
-      go : (b : Bool) → Is x ≡ cond b (Is (nearest_of false (unsigned l))) Not → (b ≡ true) × (x ≡ nearest_of false (unsigned l))
+      go : (b : Bool) → Some x ≡ cond b (Some (nearest_of false (unsigned l))) None → (b ≡ true) × (x ≡ nearest_of false (unsigned l))
       go true k = (refl, cc)
       go false k = let z : ◌≡◌ {A = ℕ} 0 1 = cc in absurd (omega arith)
 
   -- with the sign that the field has
-  signed : (minus : Bool) (x : Float) → is_minus l ≡ minus → is_unsigned (unsigned l) ≡ true → x ≡ nearest_of minus (unsigned l) → Is x ≡ decimal_field l
+  signed : (minus : Bool) (x : Float) → is_minus l ≡ minus → is_unsigned (unsigned l) ≡ true → x ≡ nearest_of minus (unsigned l) → Some x ≡ decimal_field l
   unfolding decimal_field is_decimal decimal_of
   signed minus x m u e =
-      ap Is e ∙ ap (λ (b : Bool). Is (nearest_of b (unsigned l))) (sym m) ∙ sym (ap (λ (b : Bool). cond b (Is (nearest_of (is_minus l) (unsigned l))) Not) u)
+      ap Some e ∙ ap (λ (b : Bool). Some (nearest_of b (unsigned l))) (sym m) ∙ sym (ap (λ (b : Bool). cond b (Some (nearest_of (is_minus l) (unsigned l))) None) u)
 
-  pub sign_minus : (r : Real) (x : Float) → get_or l 0 0 ≡ 45 → r ≡ unsigned_field (drop from l) → r ≡ Is x → Is (neg x) ≡ decimal_field l
+  pub sign_minus : (r : Option Float) (x : Float) → get_or l 0 0 ≡ 45 → r ≡ unsigned_field (drop from l) → r ≡ Some x → Some (neg x) ≡ decimal_field l
   unfolding is_minus nearest_of
   sign_minus r x m e h =
       let d = sign_is r x e h in
       signed true (neg x) (eq-eqb (get_or l 0 0) 45 m) d.0 (ap neg d.1 ∙ neg_round binary64 (value_of (digits_of (unsigned l))) (10 ^ length (after 46 (unsigned l))))
 
-  pub sign_plus : (r : Real) (x : Float) → (get_or l 0 0 ≡ 45 → ⊥) → r ≡ unsigned_field (drop from l) → r ≡ Is x → Is x ≡ decimal_field l
+  pub sign_plus : (r : Option Float) (x : Float) → (get_or l 0 0 ≡ 45 → ⊥) → r ≡ unsigned_field (drop from l) → r ≡ Some x → Some x ≡ decimal_field l
   unfolding is_minus
   sign_plus r x m e h =
       let d = sign_is r x e h in

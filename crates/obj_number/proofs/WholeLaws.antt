@@ -1,4 +1,5 @@
 -- Digits as a whole number: the cap, and how large a number of so many digits is.
+use Rattle.std.proofs.Common.{Some, None}
 use mathlib.Core.Path.{◌≡◌, refl, sym, ap, ◌∙◌}
 use mathlib.Core.Bool.{Bool, true, false, ◌&&◌, cond}
 use mathlib.Core.List.{List, [], ◌∷◌, ◌++◌}
@@ -10,7 +11,6 @@ use lib.Dec.{leb}
 use lib.ListN.{length, get_or, drop}
 use lib.Seq.{drop-cons}
 use borrow.Author.Tests.{leb-true, eq-eqb, ne_eqb}
-use Rattle.obj_number.specs.declared.whole.Number.TheVariants.{Is, Not}
 use Rattle.obj_number.specs.Whole.{is_digit, all_digits, value_from, value_of, is_whole, capped, digits_field, whole_field}
 
 -- ---- a digit
@@ -55,9 +55,9 @@ capped_from [] m n h = h
 capped_from (b ∷ l) m n h = capped_from l (m * 10 + (b - 48)) (n * 10 + (b - 48)) (capped_step m n (b - 48) h)
 
 -- ---- the digits that are left
-pub field_none : (n : ℕ) → n ≤ 2 ^ 63 → digits_field n [] ≡ Is n
+pub field_none : (n : ℕ) → n ≤ 2 ^ 63 → digits_field n [] ≡ Some n
 unfolding digits_field all_digits value_from
-field_none n h = ap Is (capped_below n h)
+field_none n h = ap Some (capped_below n h)
 
 field_step : (n b r : ℕ) (l : List ℕ) → is_digit b ≡ true → r ≡ capped (n * 10 + (b - 48)) → digits_field r l ≡ digits_field n (b ∷ l)
 unfolding digits_field all_digits value_from
@@ -65,7 +65,7 @@ field_step n b r l h e =
     let same : capped (value_from r l) ≡ capped (value_from (n * 10 + (b - 48)) l) = capped_from l r (n * 10 + (b - 48)) (ap capped e ∙ capped_twice (n * 10 + (b - 48))) in
     rw (h, same)
 
-field_stop : (n b : ℕ) (l : List ℕ) → is_digit b ≡ false → digits_field n (b ∷ l) ≡ Not
+field_stop : (n b : ℕ) (l : List ℕ) → is_digit b ≡ false → digits_field n (b ∷ l) ≡ None
 unfolding digits_field all_digits
 field_stop n b l h = rw h
 
@@ -74,7 +74,7 @@ pub field_more : (s : List ℕ) (n i r : ℕ) → i < length s → is_digit (get
 field_more s n i r h d e =
     ap (λ (k : ℕ). digits_field r (drop k s)) (add-one i) ∙ field_step n (get_or s i 0) r (drop (suc i) s) d e ∙ ap (digits_field n) (sym (drop-cons s i 0 h))
 
-pub field_not : (s : List ℕ) (n i : ℕ) → i < length s → is_digit (get_or s i 0) ≡ false → digits_field n (drop i s) ≡ Not
+pub field_not : (s : List ℕ) (n i : ℕ) → i < length s → is_digit (get_or s i 0) ≡ false → digits_field n (drop i s) ≡ None
 field_not s n i h d = ap (digits_field n) (drop-cons s i 0 h) ∙ field_stop n (get_or s i 0) (drop (suc i) s) d
 
 -- ---- what an answer tells
@@ -82,22 +82,22 @@ pub record Told (n : ℕ) (l : List ℕ) (r : ℕ) : Type 0 where
   pub digits : all_digits l ≡ true
   pub value : r ≡ capped (value_from n l)
 
-pub field_is : (n : ℕ) (l : List ℕ) (r : ℕ) → digits_field n l ≡ Is r → Told n l r
+pub field_is : (n : ℕ) (l : List ℕ) (r : ℕ) → digits_field n l ≡ Some r → Told n l r
 unfolding digits_field
 field_is n l r = go (all_digits l) refl
   where
-    go : (t : Bool) → all_digits l ≡ t → cond t (Is (capped (value_from n l))) Not ≡ Is r → Told n l r
+    go : (t : Bool) → all_digits l ≡ t → cond t (Some (capped (value_from n l))) None ≡ Some r → Told n l r
     go true e h = record { digits = e; value = cc }
     go false e h = absurd (never h)
       where
-        never : Not ≡ Is r → ⊥
+        never : None ≡ Some r → ⊥
         never k = let z : ◌≡◌ {A = ℕ} 0 1 = cc in omega arith
 
-pub field_is_not : (n : ℕ) (l : List ℕ) → digits_field n l ≡ Not → all_digits l ≡ false
+pub field_is_not : (n : ℕ) (l : List ℕ) → digits_field n l ≡ None → all_digits l ≡ false
 unfolding digits_field
 field_is_not n l = go (all_digits l)
   where
-    go : (t : Bool) → cond t (Is (capped (value_from n l))) Not ≡ Not → t ≡ false
+    go : (t : Bool) → cond t (Some (capped (value_from n l))) None ≡ None → t ≡ false
     go true h = cc
     go false h = refl
 
@@ -129,7 +129,7 @@ value_bound (b ∷ l) n h =
     le_trans rest (le_trans (mul-le-mul_right p one) (le_of_eq all))
 
 -- ---- a field
-pub whole_empty : (l : List ℕ) → length l ≡ 0 → whole_field l ≡ Not
+pub whole_empty : (l : List ℕ) → length l ≡ 0 → whole_field l ≡ None
 unfolding whole_field is_whole
 whole_empty l h = rw (eq-eqb (length l) 0 h)
 

@@ -1,9 +1,7 @@
 -- Decimal numbers, and the f64 that each becomes. Definitions only.
-use Rattle.std.specs.Prelude.{Bool, false, ◌&&◌, ◌||◌, cond, List, ◌++◌, ℕ, ◌^◌, leb, eqb, length, get_or, drop, Float}
+use Rattle.std.specs.Prelude.{Bool, false, ◌&&◌, ◌||◌, cond, List, ◌++◌, ℕ, ◌^◌, leb, eqb, length, get_or, drop, Option, Some, None, Float}
 use Rattle.std.specs.Float.{binary64}
 use Rattle.std.specs.Float.Ieee.{round}
-use Rattle.obj_number.specs.declared.decimal.Real.{Real}
-use Rattle.obj_number.specs.declared.decimal.Real.TheVariants.{Is, Not}
 use Rattle.obj_number.specs.Cut.{before, after}
 use Rattle.obj_number.specs.Whole.{all_digits, value_of}
 
@@ -43,10 +41,10 @@ unfolding nearest_of unsigned is_minus
 decimal_of l = nearest_of (is_minus l) (unsigned l)
 
 -- ---- the answers of the code
-unfoldable pub unsigned_field : List ℕ → Real
+unfoldable pub unsigned_field : List ℕ → Option Float
 unfolding is_unsigned nearest_of
-unsigned_field l = cond (is_unsigned l) (Is (nearest_of false l)) Not
+unsigned_field l = cond (is_unsigned l) (Some (nearest_of false l)) None
 
-unfoldable pub decimal_field : List ℕ → Real
+unfoldable pub decimal_field : List ℕ → Option Float
 unfolding is_decimal decimal_of
-decimal_field l = cond (is_decimal l) (Is (decimal_of l)) Not
+decimal_field l = cond (is_decimal l) (Some (decimal_of l)) None

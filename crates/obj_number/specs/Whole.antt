@@ -1,7 +1,5 @@
 -- Whole numbers, written as digits. Definitions only.
-use Rattle.std.specs.Prelude.{Bool, true, not, ◌&&◌, cond, List, [], ◌∷◌, ℕ, ◌+◌, ◌-◌, ◌*◌, ◌^◌, min, leb, eqb, length}
-use Rattle.obj_number.specs.declared.whole.Number.{Number}
-use Rattle.obj_number.specs.declared.whole.Number.TheVariants.{Is, Not}
+use Rattle.std.specs.Prelude.{Bool, true, not, ◌&&◌, cond, List, [], ◌∷◌, ℕ, ◌+◌, ◌-◌, ◌*◌, ◌^◌, min, leb, eqb, length, Option, Some, None}
 
 -- 48 is the byte of 0, 57 that of 9
 unfoldable pub is_digit : ℕ → Bool
@@ -34,10 +32,10 @@ unfoldable pub capped : ℕ → ℕ
 capped n = min n (2 ^ 63)
 
 -- digits that follow those of n
-unfoldable pub digits_field : ℕ → List ℕ → Number
+unfoldable pub digits_field : ℕ → List ℕ → Option ℕ
 unfolding all_digits value_from capped
-digits_field n l = cond (all_digits l) (Is (capped (value_from n l))) Not
+digits_field n l = cond (all_digits l) (Some (capped (value_from n l))) None
 
-unfoldable pub whole_field : List ℕ → Number
+unfoldable pub whole_field : List ℕ → Option ℕ
 unfolding is_whole value_of capped
-whole_field l = cond (is_whole l) (Is (capped (value_of l))) Not
+whole_field l = cond (is_whole l) (Some (capped (value_of l))) None

@@ -8,6 +8,7 @@ fn find_by_four(s: &[u8], b: u8) -> usize
     ensures { NoneTo b s.now result }
 {
     let mut i: usize = 0;
+    // A while: four bytes at a time.
     while 4 <= s.len() - i {
         if s[i] == b {
             return i;
@@ -30,12 +31,10 @@ fn find_by_four(s: &[u8], b: u8) -> usize
 pub fn find(s: &[u8], b: u8) -> usize
     ensures { result ≡ length (before b s.now) }
 {
-    let mut i: usize = find_by_four(s, b);
-    while i < s.len() {
+    for i in find_by_four(s, b)..s.len() {
         if s[i] == b {
             return i;
         }
-        i += 1;
     }
-    i
+    s.len()
 }

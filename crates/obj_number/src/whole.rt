@@ -5,13 +5,6 @@ ghost use Rattle.obj_number.specs.Whole.{is_digit, capped, digits_field, whole_f
 // Where numbers stop. No slice has so many bytes, so a text defines fewer vertices.
 const CAP: u64 = 0x8000_0000_0000_0000;
 
-// A whole number up to the cap, or bytes that are none.
-#[derive(Clone, Copy)]
-pub enum Number {
-    Is(u64),
-    Not,
-}
-
 fn is_digit(b: u8) -> bool
     ensures { result ≡ is_digit b }
 {
@@ -35,30 +28,27 @@ fn append(n: u64, b: u8) -> u64
     CAP
 }
 
-// The digits s after those of n.
-pub fn digits(s: &[u8], n: u64) -> Number
+// The number with the digits s after those of n, up to the cap; none where a byte is no digit.
+pub fn digits(s: &[u8], n: u64) -> Option<u64>
     requires { n ≤ 2 ^ 63 }
     ensures { result ≡ digits_field n s.now }
 {
     let mut value = n;
-    let mut i: usize = 0;
-    while i < s.len() {
-        let b = s[i];
+    for &b in s {
         if !is_digit(b) {
-            return Number::Not;
+            return None;
         }
         value = append(value, b);
-        i += 1;
     }
-    Number::Is(value)
+    Some(value)
 }
 
 // A field as a whole number: digits alone, one at least.
-pub fn whole(field: &[u8]) -> Number
+pub fn whole(field: &[u8]) -> Option<u64>
     ensures { result ≡ whole_field field.now }
 {
     if field.len() == 0 {
-        return Number::Not;
+        return None;
     }
     digits(field, 0)
 }

@@ -1,6 +1,8 @@
 -- The part file of a text's polygons and a job, and when none is written. Definitions only.
-use Rattle.std.specs.Prelude.{not, cond, List, [], ◌∷◌, ◌++◌, ℕ, ◌+◌, eqb, ltb, length}
-use Rattle.refusal.specs.Numbers as refusal
+use Rattle.std.specs.Prelude.{⊤, Result, Ok, Err, not, cond, List, [], ◌∷◌, ◌++◌, ℕ, ◌+◌, eqb, ltb, length}
+use Rattle.std.specs.Result.{result_and}
+use Rattle.refusal.specs.declared.Refusal.{Refusal}
+use Rattle.refusal.specs.declared.Refusal.TheVariants.{TooLarge, BadJob, OutputTooShort}
 use Rattle.file_part.specs.Layout.{size_of}
 use Rattle.file_ok.specs.Verdict.{too_large}
 use Rattle.obj_text.specs.Text.{line_refusal, Face, faces_of, corners_of, vertex_of}
@@ -24,10 +26,10 @@ unfolding vertex_block entries_from trailer_bytes
 part_file text job =
     vertex_block text (corners_of text) ++ (entries_from 0 (faces_of text) ++ (job ++ trailer_bytes (length (corners_of text)) (length (faces_of text))))
 
--- "14 .. and .. 15 ..; then a V or P too large for the file gets 3, a job not of 128 bytes 5, and an output buffer that is too short 16"; 0 for none
-unfoldable pub obj_refusal : List ℕ → ℕ → ℕ → ℕ
+-- "14 .. and .. 15 ..; then a V or P too large for the file gets 3, a job not of 128 bytes 5, and an output buffer that is too short 16"
+unfoldable pub obj_refusal : List ℕ → ℕ → ℕ → Result ⊤ Refusal
 obj_refusal text job room =
-    cond (not (eqb (line_refusal text) 0)) (line_refusal text)
-    (cond (too_large (length (corners_of text)) (length (faces_of text))) refusal.too_large
-    (cond (not (eqb job 128)) refusal.bad_job_of
-    (cond (ltb room (size_of (length (corners_of text)) (length (faces_of text)))) refusal.output_too_short 0)))
+    result_and (line_refusal text)
+    (cond (too_large (length (corners_of text)) (length (faces_of text))) (Err TooLarge)
+    (cond (not (eqb job 128)) (Err BadJob)
+    (cond (ltb room (size_of (length (corners_of text)) (length (faces_of text)))) (Err OutputTooShort) (Ok tt))))

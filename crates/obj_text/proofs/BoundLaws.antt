@@ -1,4 +1,5 @@
 -- Bounds on what a text says that neither 14 nor 15 refuses.
+use Rattle.std.proofs.Common.{Ok, Err}
 use mathlib.Core.Path.{◌≡◌, refl, sym, ap, ◌∙◌}
 use mathlib.Core.Bool.{Bool, true, false, ◌&&◌, cond}
 use mathlib.Core.List.{List, [], ◌∷◌, ◌++◌, map, append-nil}
@@ -13,7 +14,7 @@ use lib.Ieee.{binary64, fits}
 use lib.Ieee.Fits.{round-fits}
 use lib.Ieee.Bits.{of_bits-fits}
 use borrow.Author.Tests.{leb-true, ltb-true}
-use Rattle.refusal.specs.Numbers.{undefined_vertex}
+use Rattle.refusal.specs.declared.Refusal.TheVariants.{UndefinedVertex}
 use Rattle.math.specs.declared.Vec3.{Vec3}
 use Rattle.obj_number.specs.Whole.{is_whole, value_of}
 use Rattle.obj_number.specs.Decimal.{is_decimal, nearest_of, decimal_of}
@@ -164,13 +165,13 @@ largest_each [] k l = absurd (omega (arith, l))
 largest_each (n ∷ ns) zero l = omega arith
 largest_each (n ∷ ns) (suc k) l = omega (arith, largest_each ns k (omega (arith, l)))
 
-face_defined : (n : ℕ) (ns : List ℕ) (fs : List Form) → refusal_from n (face ns ∷ fs) ≡ 0 → (largest ns ≤ n) × (refusal_from n fs ≡ 0)
+face_defined : (n : ℕ) (ns : List ℕ) (fs : List Form) → refusal_from n (face ns ∷ fs) ≡ Ok tt → (largest ns ≤ n) × (refusal_from n fs ≡ Ok tt)
 unfolding refusal_from
 face_defined n ns fs h = go (leb (largest ns) n) refl h
   where
-    go : (b : Bool) → leb (largest ns) n ≡ b → cond b (refusal_from n fs) undefined_vertex ≡ 0 → (largest ns ≤ n) × (refusal_from n fs ≡ 0)
+    go : (b : Bool) → leb (largest ns) n ≡ b → cond b (refusal_from n fs) (Err UndefinedVertex) ≡ Ok tt → (largest ns ≤ n) × (refusal_from n fs ≡ Ok tt)
     go true t e = (leb-true (largest ns) n t, e)
-    go false t e = absurd (omega (arith, e))
+    go false t e = absurd cc
 
 -- with more vertices
 wider : (n m : ℕ) (fs : List Face) → n ≤ m → AllBounded n fs → AllBounded m fs
@@ -187,7 +188,7 @@ wider n m (f ∷ fs) h b = (
   wider n m fs h b.1,
 )
 
-faces_bounded : (fs : List Form) (i n : ℕ) → AllGood fs → refusal_from n fs ≡ 0 → i < 2 ^ 32 → AllBounded (n + length (vertices_from fs)) (faces_from i fs)
+faces_bounded : (fs : List Form) (i n : ℕ) → AllGood fs → refusal_from n fs ≡ Ok tt → i < 2 ^ 32 → AllBounded (n + length (vertices_from fs)) (faces_from i fs)
 unfolding AllGood Good refusal_from vertices_from faces_from AllBounded
 faces_bounded [] i n g h b = tt
 faces_bounded (vertex v ∷ fs) i n g h b =
@@ -206,9 +207,9 @@ faces_bounded (face ns ∷ fs) i n g h b =
     )
 faces_bounded (group j ∷ fs) i n g h b = faces_bounded fs j n g.1 h g.0
 faces_bounded (skipped ∷ fs) i n g h b = faces_bounded fs i n g.1 h b
-faces_bounded (other ∷ fs) i n g h b = absurd (omega (arith, h))
+faces_bounded (other ∷ fs) i n g h b = absurd cc
 
-all_bounded : (text : List ℕ) → line_refusal text ≡ 0 → AllBounded (length (vertices_of text)) (faces_of text)
+all_bounded : (text : List ℕ) → line_refusal text ≡ Ok tt → AllBounded (length (vertices_of text)) (faces_of text)
 unfolding line_refusal vertices_of faces_of
 all_bounded text h =
     wider (0 + length (vertices_from (forms_of text))) (length (vertices_from (forms_of text))) (faces_from 0 (forms_of text)) (omega arith)
@@ -221,7 +222,7 @@ each_bounded n d (f ∷ fs) b zero l = b.0
 each_bounded n d (f ∷ fs) b (suc p) l = each_bounded n d fs b.1 p (omega (arith, l))
 
 -- each face of a text that neither 14 nor 15 refuses; d is what is read past the last
-pub face_bounded : (text : List ℕ) (d : Face) → line_refusal text ≡ 0 → (p : ℕ) → p < length (faces_of text) → Bounded (length (vertices_of text)) (get_or (faces_of text) p d)
+pub face_bounded : (text : List ℕ) (d : Face) → line_refusal text ≡ Ok tt → (p : ℕ) → p < length (faces_of text) → Bounded (length (vertices_of text)) (get_or (faces_of text) p d)
 face_bounded text d h = each_bounded (length (vertices_of text)) d (faces_of text) (all_bounded text h)
 
 -- ---- the corners
@@ -242,7 +243,7 @@ each_inside n (f ∷ fs) b c l =
     append_inside n f.numbers (corners_from fs) (λ k m. record { from = b.0.positive k m; to = b.0.defined k m }) (each_inside n fs b.1) c l
 
 -- each corner of such a text has the number of one of its vertices
-pub corner_inside : (text : List ℕ) → line_refusal text ≡ 0 → (c : ℕ) → c < length (corners_of text) → Inside (length (vertices_of text)) (get_or (corners_of text) c 0)
+pub corner_inside : (text : List ℕ) → line_refusal text ≡ Ok tt → (c : ℕ) → c < length (corners_of text) → Inside (length (vertices_of text)) (get_or (corners_of text) c 0)
 unfolding corners_of
 corner_inside text h = each_inside (length (vertices_of text)) (faces_of text) (all_bounded text h)
 
@@ -257,11 +258,11 @@ corner_count_lem n (f ∷ fs) b =
     sum : (t a b n : ℕ) → t ≡ a + b → 3 ≤ a → a ≤ 64 → 3 * n ≤ b → b ≤ 64 * n → (3 * suc n ≤ t) × (t ≤ 64 * suc n)
     sum t a b n e f g h k = (omega arith, omega arith)
 
-pub corners_least : (text : List ℕ) → line_refusal text ≡ 0 → 3 * length (faces_of text) ≤ length (corners_of text)
+pub corners_least : (text : List ℕ) → line_refusal text ≡ Ok tt → 3 * length (faces_of text) ≤ length (corners_of text)
 unfolding corners_of
 corners_least text h = (corner_count_lem (length (vertices_of text)) (faces_of text) (all_bounded text h)).0
 
-pub corners_most : (text : List ℕ) → line_refusal text ≡ 0 → length (corners_of text) ≤ 64 * length (faces_of text)
+pub corners_most : (text : List ℕ) → line_refusal text ≡ Ok tt → length (corners_of text) ≤ 64 * length (faces_of text)
 unfolding corners_of
 corners_most text h = (corner_count_lem (length (vertices_of text)) (faces_of text) (all_bounded text h)).1
 

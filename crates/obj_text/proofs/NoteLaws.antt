@@ -1,4 +1,6 @@
 -- The tables of the first pass, line by line.
+use Rattle.std.proofs.Common.{Result, Ok, Err}
+use Rattle.std.specs.Result.{ForOk}
 use mathlib.Core.Path.{◌≡◌, refl, sym, ap, ◌∙◌, subst}
 use mathlib.Core.Bool.{Bool, true, false, cond}
 use mathlib.Core.List.{List, [], ◌∷◌, ◌++◌, map}
@@ -9,17 +11,17 @@ use lib.Dec.{leb}
 use lib.ListN.{length, set, length-map, length-append}
 use lib.Seq.{sets, length-sets, set_out}
 use lib.Ieee.{Float}
-use Rattle.refusal.specs.Numbers.{undefined_vertex}
+use Rattle.refusal.specs.declared.Refusal.{Refusal}
+use Rattle.refusal.specs.declared.Refusal.TheVariants.{UndefinedVertex}
 use Rattle.math.specs.declared.Vec3.{Vec3}
 use Rattle.obj_number.specs.Whole.{capped}
 use Rattle.obj_line.specs.declared.line.Corners.{Corners}
 use Rattle.obj_line.specs.declared.line.Line.{Line}
-use Rattle.obj_line.specs.declared.line.Line.TheVariants as Line
 use Rattle.obj_line.specs.Form.{Form, vertex, face, group, skipped, other, largest, line_of, numbers_of, Read}
 use Rattle.obj_text.specs.declared.judge.Tally.{Tally}
 use Rattle.obj_text.specs.Text.{forms_of, line_refusal, vertices_from, vertices_of, Face, faces_from, faces_of, corners_from, corners_of}
 use Rattle.obj_text.specs.Judged.{Tables, Slots, Sized, Judged}
-use Rattle.obj_text.specs.Work.{refusing, tallied, start, vertex_in, index_in, count_in, KeptVertex, KeptFace, NotedLine, index_after}
+use Rattle.obj_text.specs.Work.{tallied, start, vertex_in, index_in, count_in, KeptVertex, KeptFace, NotedLine, index_after}
 use Rattle.obj_text.proofs.TallyLaws.{Told}
 
 -- ---- one line, as the code has it
@@ -27,6 +29,27 @@ past_end : (xs : List Float) (n : ℕ) (l : List Vec3) (g : Vec3 → Float) → 
 past_end xs n [] g h k = refl
 past_end xs n (v ∷ l) g h k =
     past_end xs (suc n) l g h (omega arith) ∙ sym (ap (λ (t : List Float). sets t (suc n) (map g l)) (set_out xs n (g v) (omega arith)))
+
+-- a line that is no vertex, or no face
+no_vertex : (l : Line) → ((v : Vec3) → l ≡ Line.Vertex v → ⊥) → vertex_in l ≡ []
+unfolding vertex_in
+no_vertex (Line.Vertex v) h = absurd (h v refl)
+no_vertex (Line.Face c) h = refl
+no_vertex (Line.Group i) h = refl
+no_vertex Line.Skipped h = refl
+no_vertex Line.Other h = refl
+
+record NoFace (i : ℕ) (l : Line) : Type 0 where
+  no_index : index_in i l ≡ []
+  no_count : count_in l ≡ []
+
+no_face : (i : ℕ) (l : Line) → ((c : Corners) → l ≡ Line.Face c → ⊥) → NoFace i l
+unfolding index_in count_in
+no_face i (Line.Vertex v) h = record { no_index = refl; no_count = refl }
+no_face i (Line.Face c) h = absurd (h c refl)
+no_face i (Line.Group j) h = record { no_index = refl; no_count = refl }
+no_face i Line.Skipped h = record { no_index = refl; no_count = refl }
+no_face i Line.Other h = record { no_index = refl; no_count = refl }
 
 module _ (line : Line) (n : ℕ) (xs ys zs : List Float) where
   pub kept_past : Slots xs ys zs → 16384 ≤ n → KeptVertex line n xs ys zs xs ys zs
@@ -48,8 +71,8 @@ module _ (line : Line) (n : ℕ) (xs ys zs : List Float) where
   unfolding vertex_in
   kept_vertex v e = kept_list _ _ _ (v ∷ []) (ap vertex_in e) refl refl refl
 
-  pub kept_none : (l : Line) → line ≡ l → vertex_in l ≡ [] → KeptVertex line n xs ys zs xs ys zs
-  kept_none l e k = kept_list _ _ _ [] (ap vertex_in e ∙ k) refl refl refl
+  pub kept_none : ((v : Vec3) → line ≡ Line.Vertex v → ⊥) → KeptVertex line n xs ys zs xs ys zs
+  kept_none h = kept_list _ _ _ [] (no_vertex line h) refl refl refl
 
 module _ (line : Line) (p index : ℕ) (is cs : List ℕ) where
   face_list : (is' cs' : List ℕ) (l m : List ℕ) → index_in index line ≡ l → count_in line ≡ m → is' ≡ sets is p l → cs' ≡ sets cs p m → KeptFace line p index is cs is' cs'
@@ -59,45 +82,8 @@ module _ (line : Line) (p index : ℕ) (is cs : List ℕ) where
   unfolding index_in count_in
   kept_face c e = face_list _ _ (index ∷ []) (c.count ∷ []) (ap (index_in index) e) (ap count_in e) refl refl
 
-  pub kept_no_face : (l : Line) → line ≡ l → index_in index l ≡ [] → count_in l ≡ [] → KeptFace line p index is cs is cs
-  kept_no_face l e i c = face_list _ _ [] [] (ap (index_in index) e ∙ i) (ap count_in e ∙ c) refl refl
-
--- a line that is no vertex, or no face
-pub none_face : (c : Corners) → vertex_in (Line.Face c) ≡ []
-unfolding vertex_in
-none_face c = refl
-
-pub none_group : (n : ℕ) → vertex_in (Line.Group n) ≡ []
-unfolding vertex_in
-none_group n = refl
-
-pub none_skipped : vertex_in Line.Skipped ≡ []
-unfolding vertex_in
-none_skipped = refl
-
-pub none_other : vertex_in Line.Other ≡ []
-unfolding vertex_in
-none_other = refl
-
-pub record NoFace (i : ℕ) (l : Line) : Type 0 where
-  pub no_index : index_in i l ≡ []
-  pub no_count : count_in l ≡ []
-
-pub plain_vertex : (i : ℕ) (v : Vec3) → NoFace i (Line.Vertex v)
-unfolding index_in count_in
-plain_vertex i v = record { no_index = refl; no_count = refl }
-
-pub plain_group : (i n : ℕ) → NoFace i (Line.Group n)
-unfolding index_in count_in
-plain_group i n = record { no_index = refl; no_count = refl }
-
-pub plain_skipped : (i : ℕ) → NoFace i Line.Skipped
-unfolding index_in count_in
-plain_skipped i = record { no_index = refl; no_count = refl }
-
-pub plain_other : (i : ℕ) → NoFace i Line.Other
-unfolding index_in count_in
-plain_other i = record { no_index = refl; no_count = refl }
+  pub kept_no_face : ((c : Corners) → line ≡ Line.Face c → ⊥) → KeptFace line p index is cs is cs
+  kept_no_face h = let k = no_face index line h in face_list _ _ [] [] k.no_index k.no_count refl refl
 
 pub face_lengths : {line : Line} {p index : ℕ} {is cs is' cs' : List ℕ} → KeptFace line p index is cs is' cs' → (length is' ≡ length is) × (length cs' ≡ length cs)
 face_lengths {line} {p} {index} {is} {cs} k = (ap length k.index_then ∙ length-sets is p (index_in index line), ap length k.count_then ∙ length-sets cs p (count_in line))
@@ -110,7 +96,7 @@ vertex_lengths {line} {n} {xs} {ys} {zs} k = (
 )
 
 -- the four calls of a line
-pub noted : (f : Form) (t : Tally) (a b : Tables) (r : Tally) (line : Line) → Read f a.numbers t.corners b.numbers line
+pub noted : (f : Form) (t : Tally) (a b : Tables) (r : Result Tally Refusal) (line : Line) → Read f a.numbers t.corners b.numbers line
     → KeptFace line t.polygons t.index a.indices a.counts b.indices b.counts
     → KeptVertex line t.defined a.xs a.ys a.zs b.xs b.ys b.zs → r ≡ tallied t line → NotedLine f t a b r
 noted f t a b r line x y z k = record {
@@ -120,7 +106,7 @@ noted f t a b r line x y z k = record {
   vertices = subst (λ (l : Line). KeptVertex l t.defined a.xs a.ys a.zs b.xs b.ys b.zs) x.line z;
 }
 
-pub noted_sized : {f : Form} {t : Tally} {a b : Tables} {r : Tally} → Sized a → NotedLine f t a b r → Sized b
+pub noted_sized : {f : Form} {t : Tally} {a b : Tables} {r : Result Tally Refusal} → Sized a → NotedLine f t a b r → Sized b
 noted_sized s n =
     let p = face_lengths n.faces in
     let q = vertex_lengths n.vertices in
@@ -182,48 +168,48 @@ record Progress (f : Form) (t r : Tally) : Type 0 where
   polygons_then : r.polygons ≡ min (t.polygons + length (count_in (line_of f))) 4097
   index_then : r.index ≡ index_after t.index f
 
-clash : {A : Type 0} → ◌≡◌ {A = ℕ} 0 1 → A
-clash z = absurd (omega arith)
-
 module _ (t : Tally) (C : t.corners ≤ 16385) (P : t.polygons ≤ 4097) where
-  progress : (f : Form) → (tallied t (line_of f)).refusal ≡ 0 → Progress f t (tallied t (line_of f))
+  progress_to : (f : Form) (r : Tally) → Progress f t r → ForOk {E = Refusal} (Ok r) (Progress f t)
+  progress_to f r g u e = let same : r ≡ u = cc in subst (Progress f t) same g
+
+  progress : (f : Form) → ForOk (tallied t (line_of f)) (Progress f t)
   unfolding tallied line_of vertex_in numbers_of count_in index_after
-  progress (vertex v) h = record {
-    formed = λ (e : vertex v ≡ other). clash cc;
+  progress (vertex v) = progress_to (vertex v) _ record {
+    formed = λ (e : vertex v ≡ other). cc;
     defined_then = refl;
     corners_then = omega arith;
     polygons_then = omega arith;
     index_then = refl;
   }
-  progress (face ns) h = go (leb (capped (largest ns)) t.defined) h
+  progress (face ns) = go (leb (capped (largest ns)) t.defined)
     where
       after : Tally
-      after = record { refusal = t.refusal; defined = t.defined; corners = min (t.corners + length ns) 16385; polygons = min (t.polygons + 1) 4097; index = t.index }
+      after = record { defined = t.defined; corners = min (t.corners + length ns) 16385; polygons = min (t.polygons + 1) 4097; index = t.index }
 
-      go : (b : Bool) → (cond b after (refusing t undefined_vertex)).refusal ≡ 0 → Progress (face ns) t (cond b after (refusing t undefined_vertex))
-      go true e = record {
-        formed = λ (e : face ns ≡ other). clash cc;
+      go : (b : Bool) → ForOk (cond b (Ok after) (Err UndefinedVertex)) (Progress (face ns) t)
+      go true = progress_to (face ns) _ record {
+        formed = λ (e : face ns ≡ other). cc;
         defined_then = sym (add-zero t.defined);
         corners_then = refl;
         polygons_then = refl;
         index_then = refl;
       }
-      go false e = absurd (omega (arith, e))
-  progress (group j) h = record {
-    formed = λ (e : group j ≡ other). clash cc;
+      go false = λ u e. absurd cc
+  progress (group j) = progress_to (group j) _ record {
+    formed = λ (e : group j ≡ other). cc;
     defined_then = sym (add-zero t.defined);
     corners_then = omega arith;
     polygons_then = omega arith;
     index_then = refl;
   }
-  progress skipped h = record {
-    formed = λ (e : skipped ≡ other). clash cc;
+  progress skipped = progress_to skipped _ record {
+    formed = λ (e : skipped ≡ other). cc;
     defined_then = sym (add-zero t.defined);
     corners_then = omega arith;
     polygons_then = omega arith;
     index_then = refl;
   }
-  progress other h = absurd (omega (arith, h))
+  progress other = λ u e. absurd cc
 
 -- ---- the lines fs that are left, noted now, give the whole
 pub record Left (text : List ℕ) (a : Tables) (fs : List Form) (t : Tally) (b : Tables) : Type 0 where
@@ -285,8 +271,8 @@ axis_step g d d' k k' new rest whole all e n w h =
     table_step d d' k k' (map g new) (map g rest) (map g whole) all e (n ∙ ap (λ (i : ℕ). k + i) (sym (length-map new g))) (ap (map g) w ∙ map_append g new rest) h
 
 module _ {text : List ℕ} {a : Tables} {f : Form} {fs : List Form} {t : Tally} {b : Tables} (k : Left text a (f ∷ fs) t b) (C : t.corners ≤ 16385) (P : t.polygons ≤ 4097) where
-  pub left_step : (c : Tables) (r : Tally) → NotedLine f t b c r → r.refusal ≡ 0 → Left text a fs r c
-  left_step c r n z = record {
+  pub left_step : (c : Tables) (o : Result Tally Refusal) → NotedLine f t b c o → ForOk o (λ (r : Tally). Left text a fs r c)
+  left_step c o n r z = record {
     sized = noted_sized k.sized n;
     defined_left =
         sum r.defined t.defined (length (vertex_in (line_of f))) (length (vertices_from fs)) (length (vertices_from fs)) (length (vertices_from (f ∷ fs))) _ g.defined_then refl
@@ -314,7 +300,7 @@ module _ {text : List ℕ} {a : Tables} {f : Form} {fs : List Form} {t : Tally} 
   }
     where
       g : Progress f t r
-      g = subst (Progress f t) (sym n.tally) (progress t C P f (sym (ap (λ (x : Tally). x.refusal) n.tally) ∙ z))
+      g = progress t C P f r (sym n.tally ∙ z)
 
       rest : List ℕ
       rest = corners_from (faces_from (index_after t.index f) fs)
@@ -345,10 +331,10 @@ module _ {text : List ℕ} {a : Tables} {f : Form} {fs : List Form} {t : Tally} 
       sum x y n m m' w total p q s h = omega (arith, p, q, s, h)
 
 -- ---- at a refused line, and at the end
-pub judged_refused : (text : List ℕ) (a b : Tables) (r : Tally) → Told text r → (r.refusal ≡ 0 → ⊥) → Sized b → Judged text a b r
-judged_refused text a b r j h s = record {
+pub judged_refused : (text : List ℕ) (a b : Tables) (d : Refusal) → Told text (Err d) → Sized b → Judged text a b (Err d)
+judged_refused text a b d j s = record {
   refusal = j.refusal;
-  defined = λ e. none e;
+  defined = λ u e. absurd cc;
   corners = j.corners;
   polygons = j.polygons;
   sized = s;
@@ -360,17 +346,17 @@ judged_refused text a b r j h s = record {
   zs_are = λ e. none e;
 }
   where
-    none : {A : Type 0} → line_refusal text ≡ 0 → A
-    none e = absurd (h (j.refusal ∙ e))
+    none : {A : Type 0} → line_refusal text ≡ Ok tt → A
+    none e = let k = j.refusal ∙ e in absurd cc
 
-pub judged_all : (text : List ℕ) (a b : Tables) (fs : List Form) (r : Tally) → Told text r → fs ≡ [] → Left text a fs r b → Judged text a b r
+pub judged_all : (text : List ℕ) (a b : Tables) (fs : List Form) (t : Tally) → Told text (Ok t) → fs ≡ [] → Left text a fs t b → Judged text a b (Ok t)
 unfolding vertices_from faces_from corners_from
-judged_all text a b fs r j e k = done (subst (λ (l : List Form). Left text a l r b) e k)
+judged_all text a b fs t j e k = done (subst (λ (l : List Form). Left text a l t b) e k)
   where
-    done : Left text a [] r b → Judged text a b r
+    done : Left text a [] t b → Judged text a b (Ok t)
     done k = record {
       refusal = j.refusal;
-      defined = λ e. sym (add-zero r.defined) ∙ k.defined_left;
+      defined = λ u e. let same : t ≡ u = cc in ap (λ (x : Tally). x.defined) (sym same) ∙ sym (add-zero t.defined) ∙ k.defined_left;
       corners = j.corners;
       polygons = j.polygons;
       sized = k.sized;

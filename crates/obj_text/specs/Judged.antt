@@ -1,5 +1,7 @@
 -- What the first pass tells. Definitions only.
-use Rattle.std.specs.Prelude.{◌≡◌, List, map, ℕ, ◌≤◌, min, length, Float}
+use Rattle.std.specs.Prelude.{◌≡◌, List, map, ℕ, ◌≤◌, min, length, Result, Ok, Float}
+use Rattle.std.specs.Result.{result_and, ForOk}
+use Rattle.refusal.specs.declared.Refusal.{Refusal}
 use Rattle.std.proofs.lemmas.List.Edits.{sets}
 use Rattle.math.specs.declared.Vec3.{Vec3}
 use Rattle.obj_number.specs.Whole.{capped}
@@ -32,15 +34,15 @@ pub record Sized (t : Tables) : Type 0 where
 
 -- Refusal 14 or 15; where neither, how many vertices are defined, how many corners and polygons there are, of which one more than a part file can
 -- hold stands for any more, and, where it can hold them, what the tables hold. Of the vertices a table holds as many as it has places.
-pub record Judged (text : List ℕ) (before after : Tables) (t : Tally) : Type 0 where
-  pub refusal : t.refusal ≡ line_refusal text
-  pub defined : line_refusal text ≡ 0 → t.defined ≡ length (vertices_of text)
-  pub corners : line_refusal text ≡ 0 → t.corners ≡ min (length (corners_of text)) 16385
-  pub polygons : line_refusal text ≡ 0 → t.polygons ≡ min (length (faces_of text)) 4097
+pub record Judged (text : List ℕ) (before after : Tables) (r : Result Tally Refusal) : Type 0 where
+  pub refusal : result_and r (Ok tt) ≡ line_refusal text
+  pub defined : ForOk r (λ (t : Tally). t.defined ≡ length (vertices_of text))
+  pub corners : ForOk r (λ (t : Tally). t.corners ≡ min (length (corners_of text)) 16385)
+  pub polygons : ForOk r (λ (t : Tally). t.polygons ≡ min (length (faces_of text)) 4097)
   pub sized : Sized after
-  pub numbers_are : line_refusal text ≡ 0 → length (corners_of text) ≤ 16384 → after.numbers ≡ sets before.numbers 0 (map capped (corners_of text))
-  pub indices_are : line_refusal text ≡ 0 → length (faces_of text) ≤ 4096 → after.indices ≡ sets before.indices 0 (map (λ (f : Face). f.index) (faces_of text))
-  pub counts_are : line_refusal text ≡ 0 → length (faces_of text) ≤ 4096 → after.counts ≡ sets before.counts 0 (map (λ (f : Face). length f.numbers) (faces_of text))
-  pub xs_are : line_refusal text ≡ 0 → after.xs ≡ sets before.xs 0 (map (λ (v : Vec3). v.x) (vertices_of text))
-  pub ys_are : line_refusal text ≡ 0 → after.ys ≡ sets before.ys 0 (map (λ (v : Vec3). v.y) (vertices_of text))
-  pub zs_are : line_refusal text ≡ 0 → after.zs ≡ sets before.zs 0 (map (λ (v : Vec3). v.z) (vertices_of text))
+  pub numbers_are : line_refusal text ≡ Ok tt → length (corners_of text) ≤ 16384 → after.numbers ≡ sets before.numbers 0 (map capped (corners_of text))
+  pub indices_are : line_refusal text ≡ Ok tt → length (faces_of text) ≤ 4096 → after.indices ≡ sets before.indices 0 (map (λ (f : Face). f.index) (faces_of text))
+  pub counts_are : line_refusal text ≡ Ok tt → length (faces_of text) ≤ 4096 → after.counts ≡ sets before.counts 0 (map (λ (f : Face). length f.numbers) (faces_of text))
+  pub xs_are : line_refusal text ≡ Ok tt → after.xs ≡ sets before.xs 0 (map (λ (v : Vec3). v.x) (vertices_of text))
+  pub ys_are : line_refusal text ≡ Ok tt → after.ys ≡ sets before.ys 0 (map (λ (v : Vec3). v.y) (vertices_of text))
+  pub zs_are : line_refusal text ≡ Ok tt → after.zs ≡ sets before.zs 0 (map (λ (v : Vec3). v.z) (vertices_of text))

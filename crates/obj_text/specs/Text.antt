@@ -1,8 +1,9 @@
 -- What OBJ text says. Definitions only.
-use Rattle.std.specs.Prelude.{cond, List, [], ◌∷◌, ◌++◌, map, ℕ, ◌+◌, ◌-◌, leb, get_or}
+use Rattle.std.specs.Prelude.{⊤, Result, Ok, Err, cond, List, [], ◌∷◌, ◌++◌, map, ℕ, ◌+◌, ◌-◌, leb, get_or}
 use Rattle.std.specs.Float.{binary64}
 use Rattle.std.specs.Float.Ieee.{of_bits}
-use Rattle.refusal.specs.Numbers.{bad_line, undefined_vertex}
+use Rattle.refusal.specs.declared.Refusal.{Refusal}
+use Rattle.refusal.specs.declared.Refusal.TheVariants.{BadLine, UndefinedVertex}
 use Rattle.math.specs.declared.Vec3.{Vec3}
 use Rattle.obj_line.specs.Split.{lines_of}
 use Rattle.obj_line.specs.Form.{Form, vertex, face, group, skipped, other, form_of, largest}
@@ -12,16 +13,16 @@ unfoldable pub forms_of : List ℕ → List Form
 forms_of text = map form_of (lines_of text)
 
 -- ---- "It refuses with 14 a line of any other form and with 15 a vertex number not yet defined, tested in line order, form first"
--- the refusal of lines before which n vertices are defined, 0 for none
-unfoldable pub refusal_from : ℕ → List Form → ℕ
-refusal_from n [] = 0
+-- the refusal of lines before which n vertices are defined
+unfoldable pub refusal_from : ℕ → List Form → Result ⊤ Refusal
+refusal_from n [] = Ok tt
 refusal_from n (vertex v ∷ fs) = refusal_from (n + 1) fs
-refusal_from n (face ns ∷ fs) = cond (leb (largest ns) n) (refusal_from n fs) undefined_vertex
+refusal_from n (face ns ∷ fs) = cond (leb (largest ns) n) (refusal_from n fs) (Err UndefinedVertex)
 refusal_from n (group i ∷ fs) = refusal_from n fs
 refusal_from n (skipped ∷ fs) = refusal_from n fs
-refusal_from n (other ∷ fs) = bad_line
+refusal_from n (other ∷ fs) = Err BadLine
 
-unfoldable pub line_refusal : List ℕ → ℕ
+unfoldable pub line_refusal : List ℕ → Result ⊤ Refusal
 unfolding refusal_from forms_of
 line_refusal text = refusal_from 0 (forms_of text)
 

@@ -1,35 +1,32 @@
 -- What private functions leave on the way; a reader may pass over it. Definitions only.
-use Rattle.std.specs.Prelude.{◌≡◌, cond, List, [], ◌∷◌, map, ℕ, ◌+◌, min, eqb, leb, length, drop, Float}
+use Rattle.std.specs.Prelude.{◌≡◌, cond, List, [], ◌∷◌, map, ℕ, ◌+◌, min, leb, length, drop, Result, Ok, Err, Float}
 use Rattle.std.proofs.lemmas.List.Edits.{sets}
-use Rattle.refusal.specs.Numbers.{bad_line, undefined_vertex}
+use Rattle.refusal.specs.declared.Refusal.{Refusal}
+use Rattle.refusal.specs.declared.Refusal.TheVariants.{BadLine, UndefinedVertex}
 use Rattle.math.specs.declared.Vec3.{Vec3}
 use Rattle.obj_line.specs.declared.line.Line.{Line}
-use Rattle.obj_line.specs.declared.line.Line.TheVariants as Line
 use Rattle.obj_line.specs.Split.{split}
 use Rattle.obj_line.specs.Form.{Form, vertex, face, group, skipped, other, form_of, line_of, Read}
 use Rattle.obj_text.specs.declared.judge.Tally.{Tally}
 use Rattle.obj_text.specs.Judged.{Tables}
 
--- the tally with a refusal
-abbrev pub refusing : Tally → ℕ → Tally
-refusing t n = record { refusal = n; defined = t.defined; corners = t.corners; polygons = t.polygons; index = t.index }
-
--- the tally after one more line
-unfoldable pub tallied : Tally → Line → Tally
-tallied t (Line.Vertex v) = record { refusal = t.refusal; defined = t.defined + 1; corners = t.corners; polygons = t.polygons; index = t.index }
+-- the tally after one more line, or its refusal
+unfoldable pub tallied : Tally → Line → Result Tally Refusal
+tallied t (Line.Vertex v) = Ok record { defined = t.defined + 1; corners = t.corners; polygons = t.polygons; index = t.index }
 tallied t (Line.Face c) =
     cond (leb c.largest t.defined)
-    (record { refusal = t.refusal; defined = t.defined; corners = min (t.corners + c.count) 16385; polygons = min (t.polygons + 1) 4097; index = t.index })
-    (refusing t undefined_vertex)
-tallied t (Line.Group n) = record { refusal = t.refusal; defined = t.defined; corners = t.corners; polygons = t.polygons; index = n }
-tallied t Line.Skipped = t
-tallied t Line.Other = refusing t bad_line
+    (Ok record { defined = t.defined; corners = min (t.corners + c.count) 16385; polygons = min (t.polygons + 1) 4097; index = t.index })
+    (Err UndefinedVertex)
+tallied t (Line.Group n) = Ok record { defined = t.defined; corners = t.corners; polygons = t.polygons; index = n }
+tallied t Line.Skipped = Ok t
+tallied t Line.Other = Err BadLine
 
 -- and after more lines, up to one that is refused
-unfoldable pub tally_from : Tally → List Form → Tally
+unfoldable pub tally_from : Result Tally Refusal → List Form → Result Tally Refusal
 unfolding tallied
-tally_from t [] = t
-tally_from t (f ∷ fs) = cond (eqb (tallied t (line_of f)).refusal 0) (tally_from (tallied t (line_of f)) fs) (tallied t (line_of f))
+tally_from (Err e) fs = Err e
+tally_from (Ok t) [] = Ok t
+tally_from (Ok t) (f ∷ fs) = tally_from (tallied t (line_of f)) fs
 
 -- the lines from a place where one begins; past the text's end there is none
 unfoldable pub lines_from : List ℕ → ℕ → List (List ℕ)
@@ -40,7 +37,7 @@ unfolding lines_from
 forms_from text at = map form_of (lines_from text at)
 
 unfoldable pub start : Tally
-start = record { refusal = 0; defined = 0; corners = 0; polygons = 0; index = 0 }
+start = record { defined = 0; corners = 0; polygons = 0; index = 0 }
 
 -- ---- what one line adds to the tables
 unfoldable pub vertex_in : Line → List Vec3
@@ -73,7 +70,7 @@ pub record KeptFace (line : Line) (p index : ℕ) (is cs is' cs' : List ℕ) : T
   pub index_then : is' ≡ sets is p (index_in index line)
   pub count_then : cs' ≡ sets cs p (count_in line)
 
-pub record NotedLine (f : Form) (t : Tally) (a b : Tables) (r : Tally) : Type 0 where
+pub record NotedLine (f : Form) (t : Tally) (a b : Tables) (r : Result Tally Refusal) : Type 0 where
   pub tally : r ≡ tallied t (line_of f)
   pub read : Read f a.numbers t.corners b.numbers (line_of f)
   pub faces : KeptFace (line_of f) t.polygons t.index a.indices a.counts b.indices b.counts

@@ -1,86 +1,47 @@
 // The first pass: which line is refused, how large the part file is, and what it is made of, in tables.
-ghost use Rattle.std.specs.Prelude.{◌≡◌, ◌+◌, ◌^◌, ◌≤◌, ◌<◌, min, length};
+ghost use Rattle.std.specs.Prelude.{◌≡◌, ◌^◌, ◌≤◌, ◌<◌, length};
 ghost use Rattle.obj_line.specs.Form.{form_of};
 ghost use Rattle.obj_text.specs.Judged.{tables, Slots, Sized, Judged};
-ghost use Rattle.obj_text.specs.Work.{refusing, tallied, KeptVertex, KeptFace, NotedLine};
+ghost use Rattle.obj_text.specs.Work.{tallied, KeptVertex, KeptFace, NotedLine};
 
 use obj_line::line::{Line, read_line};
 use obj_number::cut::find;
-use refusal::{ACCEPTED, BAD_LINE, UNDEFINED_VERTEX};
+use refusal::Refusal;
 
-// The refusal, 0 for none; how many vertices are defined; how many corners and polygons there are, up to one more than a part file can hold;
-// and the face index in use.
+// How many vertices are defined; how many corners and polygons there are, up to one more than a part file can hold; and the face index in use.
 #[derive(Clone, Copy)]
 pub struct Tally {
-    pub refusal: u32,
     pub defined: usize,
     pub corners: usize,
     pub polygons: usize,
     pub index: u32,
 }
 
-// a + b, up to a most.
-fn add_up_to(a: usize, b: usize, most: usize) -> usize
-    requires { a ≤ most }
-    ensures { result ≡ min (a + b) most }
-{
-    if b < most - a {
-        return a + b;
-    }
-    most
-}
-
-// The tally with a refusal.
-fn refused(t: Tally, refusal: u32) -> Tally
-    ensures { result ≡ refusing t refusal }
-{
-    Tally {
-        refusal: refusal,
-        defined: t.defined,
-        corners: t.corners,
-        polygons: t.polygons,
-        index: t.index,
-    }
-}
-
-// The tally after one more line.
-fn add_line(t: Tally, line: Line) -> Tally
+// The tally after one more line, or refusal 14 or 15.
+fn add_line(t: Tally, line: Line) -> Result<Tally, Refusal>
     requires fact_1 { t.defined < 2 ^ 63 }
     requires fact_2 { t.corners ≤ 16385 }
     requires fact_3 { t.polygons ≤ 4097 }
     ensures { result ≡ tallied t line }
 {
     match line {
-        Line::Vertex(_) => Tally {
-            refusal: t.refusal,
+        Line::Vertex(_) => Ok(Tally {
             defined: t.defined + 1,
-            corners: t.corners,
-            polygons: t.polygons,
-            index: t.index,
-        },
+            ..t
+        }),
         Line::Face(c) => {
             if (t.defined as u64) < c.largest {
-                return refused(t, UNDEFINED_VERTEX);
+                return Err(Refusal::UndefinedVertex);
             }
-            let corners = add_up_to(t.corners, c.count, 16385);
-            let polygons = add_up_to(t.polygons, 1, 4097);
-            Tally {
-                refusal: t.refusal,
-                defined: t.defined,
-                corners: corners,
-                polygons: polygons,
-                index: t.index,
-            }
+            Ok(Tally {
+                corners: t.corners.saturating_add(c.count).min(16385),
+                polygons: (t.polygons + 1).min(4097),
+                ..t
+            })
         }
-        Line::Group(n) => Tally {
-            refusal: t.refusal,
-            defined: t.defined,
-            corners: t.corners,
-            polygons: t.polygons,
-            index: n,
-        },
-        Line::Skipped => t,
-        Line::Other => refused(t, BAD_LINE),
+        Line::Group(n) => Ok(Tally { index: n, ..t }),
+        Line::Skipped => Ok(t),
+        Line::Other => Err(Refusal::BadLine),
     }
 }
 
@@ -92,16 +53,10 @@ fn keep_vertex(line: Line, n: usize, xs: &mut [f64], ys: &mut [f64], zs: &mut [f
     if 16384 <= n {
         return;
     }
-    match line {
-        Line::Vertex(v) => {
-            xs[n] = v.x;
-            ys[n] = v.y;
-            zs[n] = v.z;
-        }
-        Line::Face(_) => {}
-        Line::Group(_) => {}
-        Line::Skipped => {}
-        Line::Other => {}
+    if let Line::Vertex(v) = line {
+        xs[n] = v.x;
+        ys[n] = v.y;
+        zs[n] = v.z;
     }
 }
 
@@ -111,19 +66,13 @@ fn keep_face(line: Line, p: usize, index: u32, indices: &mut [u32], counts: &mut
     requires fact_2 { p < length counts.old }
     ensures { KeptFace line p index indices.old counts.old indices.new counts.new }
 {
-    match line {
-        Line::Face(c) => {
-            indices[p] = index;
-            counts[p] = c.count;
-        }
-        Line::Vertex(_) => {}
-        Line::Group(_) => {}
-        Line::Skipped => {}
-        Line::Other => {}
+    if let Line::Face(c) = line {
+        indices[p] = index;
+        counts[p] = c.count;
     }
 }
 
-// One more line: the tally after it, and what it adds to the tables.
+// One more line: the tally after it or its refusal, and what it adds to the tables.
 fn note_line(
     line: &[u8],
     t: Tally,
@@ -133,7 +82,7 @@ fn note_line(
     xs: &mut [f64],
     ys: &mut [f64],
     zs: &mut [f64],
-) -> Tally
+) -> Result<Tally, Refusal>
     requires fact_1 { t.defined < 2 ^ 63 }
     requires fact_2 { t.corners ≤ 16385 }
     requires fact_3 { t.polygons ≤ 4097 }
@@ -155,25 +104,22 @@ pub fn judge(
     xs: &mut [f64],
     ys: &mut [f64],
     zs: &mut [f64],
-) -> Tally
+) -> Result<Tally, Refusal>
     requires { Sized (tables numbers.old indices.old counts.old xs.old ys.old zs.old) }
     ensures { Judged text.now (tables numbers.old indices.old counts.old xs.old ys.old zs.old) (tables numbers.new indices.new counts.new xs.new ys.new zs.new) result }
 {
     let mut t = Tally {
-        refusal: ACCEPTED,
         defined: 0,
         corners: 0,
         polygons: 0,
         index: 0,
     };
     let mut at: usize = 0;
+    // A while: the next line begins where this one ends.
     while at <= text.len() {
         let end = at + find(&text[at..], b'\n');
-        t = note_line(&text[at..end], t, numbers, indices, counts, xs, ys, zs);
-        if t.refusal != ACCEPTED {
-            return t;
-        }
+        t = note_line(&text[at..end], t, numbers, indices, counts, xs, ys, zs)?;
         at = end + 1;
     }
-    t
+    Ok(t)
 }

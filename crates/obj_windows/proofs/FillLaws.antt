@@ -1,4 +1,6 @@
 -- The second pass: lines passed over, and windows of vertices.
+use Rattle.std.proofs.Common.{Result, Ok, Err}
+use Rattle.std.specs.Bool.{⊤}
 use mathlib.Core.Path.{◌≡◌, refl, sym, ap, ◌∙◌, subst}
 use mathlib.Core.Bool.{Bool, true, false, cond}
 use mathlib.Core.List.{List, [], ◌∷◌}
@@ -12,9 +14,7 @@ use lib.Seq.{get_or-drop, drop-drop, get_or-set_same, get_or-set_other}
 use lib.Ieee.{Float, nan}
 use borrow.Author.Tests.{eqb-false}
 use Rattle.math.specs.declared.Vec3.{Vec3}
-use Rattle.obj_line.specs.declared.line.Corners.{Corners}
 use Rattle.obj_line.specs.declared.line.Line.{Line}
-use Rattle.obj_line.specs.declared.line.Line.TheVariants as Line
 use Rattle.obj_line.specs.Form.{Form, vertex, face, group, skipped, other, form_of, largest, line_of}
 use Rattle.obj_line.specs.Work.{vertex_line}
 use Rattle.obj_line.proofs.KindLaws.{Kind, form_kind}
@@ -25,22 +25,19 @@ use Rattle.obj_windows.specs.Work.{Formed, AllFormed, defines, Nearer, Unnamed, 
 use Rattle.obj_windows.specs.Filled.{row_at_of, Filled}
 use Rattle.obj_windows.proofs.WindowLaws.{axis_flush}
 
-clash : {A : Type 0} → ◌≡◌ {A = ℕ} 0 1 → A
-clash z = absurd (omega arith)
-
 -- no line of a text that is not refused is of any other form
-all_formed : (fs : List Form) (n : ℕ) → refusal_from n fs ≡ 0 → AllFormed fs
+all_formed : (fs : List Form) (n : ℕ) → refusal_from n fs ≡ Ok tt → AllFormed fs
 unfolding AllFormed Formed refusal_from
 all_formed [] n h = tt
-all_formed (vertex v ∷ fs) n h = (λ (e : vertex v ≡ other). clash cc, all_formed fs (n + 1) h)
-all_formed (face ns ∷ fs) n h = (λ (e : face ns ≡ other). clash cc, all_formed fs n (go (leb (largest ns) n) h))
+all_formed (vertex v ∷ fs) n h = (λ (e : vertex v ≡ other). cc, all_formed fs (n + 1) h)
+all_formed (face ns ∷ fs) n h = (λ (e : face ns ≡ other). cc, all_formed fs n (go (leb (largest ns) n) (refusal_from n fs) _ h))
   where
-    go : (b : Bool) → cond b (refusal_from n fs) 15 ≡ 0 → refusal_from n fs ≡ 0
-    go true e = e
-    go false e = absurd (omega (arith, e))
-all_formed (group i ∷ fs) n h = (λ (e : group i ≡ other). clash cc, all_formed fs n h)
-all_formed (skipped ∷ fs) n h = (λ (e : skipped ≡ other). clash cc, all_formed fs n h)
-all_formed (other ∷ fs) n h = absurd (omega (arith, h))
+    go : {E : Type 0} (b : Bool) (r : Result ⊤ E) (e : E) → cond b r (Err e) ≡ Ok tt → r ≡ Ok tt
+    go true r e h = h
+    go false r e h = absurd cc
+all_formed (group i ∷ fs) n h = (λ (e : group i ≡ other). cc, all_formed fs n h)
+all_formed (skipped ∷ fs) n h = (λ (e : skipped ≡ other). cc, all_formed fs n h)
+all_formed (other ∷ fs) n h = absurd cc
 
 -- ---- vertices that no corner names
 pub unnamed_none : (numbers : List ℕ) (base r : ℕ) → Unnamed numbers 0 base r
@@ -178,6 +175,23 @@ shows l line e = subst (Shows (form_of l)) (sym e) (go (eqb (get_or l 0 0) 118) 
     go false h = shows_skipped (get_or l 0 0) (form_of l) (form_kind l) (eqb-false (get_or l 0 0) 118 h)
 
 -- ---- one line of a window
+-- a line that is no vertex
+stored_none : (g : Vec3 → Float) (xs : List Float) (n : ℕ) (l : Line) → ((v : Vec3) → l ≡ Line.Vertex v → ⊥) → stored_in g xs n l ≡ xs
+unfolding stored_in
+stored_none g xs n (Line.Vertex v) h = absurd (h v refl)
+stored_none g xs n (Line.Face c) h = refl
+stored_none g xs n (Line.Group i) h = refl
+stored_none g xs n Line.Skipped h = refl
+stored_none g xs n Line.Other h = refl
+
+count_none : (n : ℕ) (l : Line) → ((v : Vec3) → l ≡ Line.Vertex v → ⊥) → count_after n l ≡ n
+unfolding count_after
+count_none n (Line.Vertex v) h = absurd (h v refl)
+count_none n (Line.Face c) h = refl
+count_none n (Line.Group i) h = refl
+count_none n Line.Skipped h = refl
+count_none n Line.Other h = refl
+
 module _ (line : Line) (n : ℕ) (xs ys zs : List Float) where
   pub loaded_vertex : (v : Vec3) → line ≡ Line.Vertex v → LoadedLine line n xs ys zs (set xs n v.x) (set ys n v.y) (set zs n v.z) (n + 1)
   unfolding stored_in count_after
@@ -188,29 +202,13 @@ module _ (line : Line) (n : ℕ) (xs ys zs : List Float) where
     count_then = sym (ap (count_after n) e);
   }
 
-  loaded_same : (l : Line) → ((g : Vec3 → Float) (t : List Float) → stored_in g t n l ≡ t) → count_after n l ≡ n → line ≡ l → LoadedLine line n xs ys zs xs ys zs n
-  loaded_same l s k e = record {
-    x_then = sym (ap (stored_in (λ (u : Vec3). u.x) xs n) e ∙ s (λ (u : Vec3). u.x) xs);
-    y_then = sym (ap (stored_in (λ (u : Vec3). u.y) ys n) e ∙ s (λ (u : Vec3). u.y) ys);
-    z_then = sym (ap (stored_in (λ (u : Vec3). u.z) zs n) e ∙ s (λ (u : Vec3). u.z) zs);
-    count_then = sym (ap (count_after n) e ∙ k);
+  pub loaded_none : ((v : Vec3) → line ≡ Line.Vertex v → ⊥) → LoadedLine line n xs ys zs xs ys zs n
+  loaded_none h = record {
+    x_then = sym (stored_none (λ (u : Vec3). u.x) xs n line h);
+    y_then = sym (stored_none (λ (u : Vec3). u.y) ys n line h);
+    z_then = sym (stored_none (λ (u : Vec3). u.z) zs n line h);
+    count_then = sym (count_none n line h);
   }
-
-  pub loaded_face : (c : Corners) → line ≡ Line.Face c → LoadedLine line n xs ys zs xs ys zs n
-  unfolding stored_in count_after
-  loaded_face c e = loaded_same (Line.Face c) (λ g t. refl) refl e
-
-  pub loaded_group : (i : ℕ) → line ≡ Line.Group i → LoadedLine line n xs ys zs xs ys zs n
-  unfolding stored_in count_after
-  loaded_group i e = loaded_same (Line.Group i) (λ g t. refl) refl e
-
-  pub loaded_skipped : line ≡ Line.Skipped → LoadedLine line n xs ys zs xs ys zs n
-  unfolding stored_in count_after
-  loaded_skipped e = loaded_same Line.Skipped (λ g t. refl) refl e
-
-  pub loaded_other : line ≡ Line.Other → LoadedLine line n xs ys zs xs ys zs n
-  unfolding stored_in count_after
-  loaded_other e = loaded_same Line.Other (λ g t. refl) refl e
 
 stored_length : (g : Vec3 → Float) (xs : List Float) (n : ℕ) (line : Line) → length (stored_in g xs n line) ≡ length xs
 unfolding stored_in
@@ -356,7 +354,7 @@ axis_none f vs numbers used slots corners h k = record {
   corner = λ c l one most. absurd (omega (arith, one, most));
 }
 
-pub filling_all : (text numbers : List ℕ) (used : ℕ) (xs ys zs cx cy cz : List Float) → forms_from text 0 ≡ forms_of text → line_refusal text ≡ 0 → Slots xs ys zs → Slots cx cy cz
+pub filling_all : (text numbers : List ℕ) (used : ℕ) (xs ys zs cx cy cz : List Float) → forms_from text 0 ≡ forms_of text → line_refusal text ≡ Ok tt → Slots xs ys zs → Slots cx cy cz
     → Filling text numbers used 0 0 xs ys zs cx cy cz
 unfolding vertices_of line_refusal
 filling_all text numbers used xs ys zs cx cy cz e h s c = record {

@@ -3,7 +3,6 @@ use Rattle.std.specs.Prelude.{◌≡◌, ◌&&◌, cond, List, [], ◌∷◌, �
 use Rattle.std.specs.Float.{nan}
 use Rattle.math.specs.declared.Vec3.{Vec3}
 use Rattle.obj_line.specs.declared.line.Line.{Line}
-use Rattle.obj_line.specs.declared.line.Line.TheVariants as Line
 use Rattle.obj_line.specs.Form.{Form, vertex, face, group, skipped, other}
 use Rattle.obj_text.specs.Text.{origin, vertices_from}
 use Rattle.obj_text.specs.Judged.{Slots}

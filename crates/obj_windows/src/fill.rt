@@ -25,11 +25,7 @@ fn nearer(gap: u64, base: u64, number: u64) -> u64
     if number <= base {
         return gap;
     }
-    let next = number - base - 1;
-    if next < gap {
-        return next;
-    }
-    gap
+    gap.min(number - base - 1)
 }
 
 // How many vertices after the first `base` no corner names, before one that a corner names.
@@ -38,11 +34,8 @@ fn unnamed(numbers: &[u64], used: usize, base: u64) -> u64
     ensures { Unnamed numbers.now used base result }
 {
     let mut gap: u64 = 0x8000_0000_0000_0000;
-    let mut c: usize = 0;
-    while c < used {
-        let number = numbers[c];
+    for &number in &numbers[..used] {
         gap = nearer(gap, base, number);
-        c += 1;
     }
     gap
 }
@@ -69,16 +62,16 @@ fn skip(text: &[u8], from: usize, most: u64) -> Place
 {
     let mut at: usize = from;
     let mut n: u64 = 0;
+    // A while: the next line begins where this one ends.
     while at <= text.len() {
         if n == most {
-            return Place { at: at, count: n };
+            return Place { at, count: n };
         }
         let end = at + find(&text[at..], b'\n');
-        let more = defined_by(&text[at..end]);
-        n += more;
+        n += defined_by(&text[at..end]);
         at = end + 1;
     }
-    Place { at: at, count: n }
+    Place { at, count: n }
 }
 
 // One more line: a vertex is the window's next.
@@ -87,18 +80,13 @@ fn load_line(line: Line, n: u64, xs: &mut [f64], ys: &mut [f64], zs: &mut [f64])
     requires fact_2 { Slots xs.old ys.old zs.old }
     ensures { LoadedLine line n xs.old ys.old zs.old xs.new ys.new zs.new result }
 {
-    match line {
-        Line::Vertex(v) => {
-            xs[n as usize] = v.x;
-            ys[n as usize] = v.y;
-            zs[n as usize] = v.z;
-            n + 1
-        }
-        Line::Face(_) => n,
-        Line::Group(_) => n,
-        Line::Skipped => n,
-        Line::Other => n,
-    }
+    let Line::Vertex(v) = line else {
+        return n;
+    };
+    xs[n as usize] = v.x;
+    ys[n as usize] = v.y;
+    zs[n as usize] = v.z;
+    n + 1
 }
 
 // Lines of at most as many vertices as a window has.
@@ -109,16 +97,17 @@ fn load(text: &[u8], from: usize, xs: &mut [f64], ys: &mut [f64], zs: &mut [f64]
 {
     let mut at: usize = from;
     let mut n: u64 = 0;
+    // A while: the next line begins where this one ends.
     while at <= text.len() {
         if n == 16384 {
-            return Place { at: at, count: n };
+            return Place { at, count: n };
         }
         let end = at + find(&text[at..], b'\n');
         let line = read_vertex(&text[at..end]);
         n = load_line(line, n, xs, ys, zs);
         at = end + 1;
     }
-    Place { at: at, count: n }
+    Place { at, count: n }
 }
 
 // The coordinates of the corners of these numbers, window by window. A window begins at a vertex that a corner names.
@@ -137,11 +126,12 @@ pub fn fill(
     requires fact_2 { used ≤ 16384 }
     requires fact_3 { Slots xs.old ys.old zs.old }
     requires fact_4 { Slots cx.old cy.old cz.old }
-    requires fact_5 { line_refusal text.now ≡ 0 }
+    requires fact_5 { line_refusal text.now ≡ Ok tt }
     ensures { Filled text.now numbers.now used cx.new cy.new cz.new }
 {
     let mut base: u64 = 0;
     let mut at: usize = 0;
+    // A while: the next window begins where this one ends.
     while at <= text.len() {
         let gap = unnamed(numbers, used, base);
         let p = skip(text, at, gap);

@@ -33,11 +33,7 @@ pub fn flush(
     requires fact_3 { count ≤ length slots.now }
     ensures { Flushed numbers.now used base slots.now count corners.old corners.new }
 {
-    let mut c: usize = 0;
-    while c < used {
-        let number = numbers[c];
-        let old = corners[c];
-        corners[c] = pick(slots, base, count, number, old);
-        c += 1;
+    for c in 0..used {
+        corners[c] = pick(slots, base, count, numbers[c], corners[c]);
     }
 }

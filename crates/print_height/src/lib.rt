@@ -16,15 +16,12 @@ pub fn heights(file: &[u8], up: Vec3) -> Extent
     requires { Checked file.now }
     ensures { result ≡ heights_to (part_of file.now) up (part_of file.now).vertices }
 {
-    let n = vertex_count(file);
     let mut e = Extent {
-        lo: 1.0 / 0.0,
-        hi: -1.0 / 0.0,
+        lo: f64::INFINITY,
+        hi: f64::NEG_INFINITY,
     };
-    let mut i: usize = 0;
-    while i < n {
+    for i in 0..vertex_count(file) {
         e = e.reach(corner(file, i).dot(up));
-        i += 1;
     }
     e
 }

@@ -56,10 +56,9 @@ fn with_sample(least: Thinnest, sample: Sample, up: Vec3) -> Thinnest
     ensures { result ≡ with_sample up least sample }
 {
     if sample.thickness < least.thickness {
-        let normal = sample.normal;
         return Thinnest {
             thickness: sample.thickness,
-            stacked: is_stacked(normal, up),
+            stacked: is_stacked(sample.normal, up),
         };
     }
     least
@@ -91,16 +90,13 @@ fn thinnest_reading(
     ensures { result ≡ thinnest_of (part_of file.now) up (part i e (reading_order at words.now)) }
 {
     let first = sample_in_order(file, words, reals, at, i);
-    let normal = first.normal;
     let mut least = Thinnest {
         thickness: f64::from_bits(0x7ff0_0000_0000_0000),
-        stacked: is_stacked(normal, up),
+        stacked: is_stacked(first.normal, up),
     };
-    let mut j = i;
-    while j < e {
+    for j in i..e {
         let sample = sample_in_order(file, words, reals, at, j);
         least = with_sample(least, sample, up);
-        j += 1;
     }
     least
 }
@@ -228,7 +224,8 @@ pub fn put_print_walls(
     let along = print.up;
     let up = along.normalized();
     let mut k = given.from;
-    let mut i: usize = 0;
+    let mut i = 0;
+    // A while: the next start is where the readings of two faces end.
     while i < m {
         let faces = next_wall(file, words, reals, at, counts, i);
         let end = faces.end;

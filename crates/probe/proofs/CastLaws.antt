@@ -18,7 +18,7 @@ use Rattle.scratch.specs.Refusal.{body_refusal_of}
 use Rattle.scratch.proofs.StandingLaws.{placed_polygons}
 use Rattle.wall_ray.specs.declared.strike.Ray.{Ray}
 use Rattle.wall_ray.specs.declared.strike.Hit.{Hit}
-use Rattle.wall_ray.specs.declared.strike.Hit.TheVariants.{At, Nothing}
+use Rattle.std.specs.Prelude.{Option, Some, None}
 use Rattle.wall_ray.specs.Nearest.{hit_of, polygon_or, time_or_zero}
 use Rattle.wall_ray.proofs.NearestLaws.{hit_struck}
 use Rattle.probe.specs.Scratch.{BodyPut}
@@ -30,7 +30,7 @@ use Rattle.probe.proofs.RaysLaws.{answered_none, answered_more, answered_all}
 pub cast_none : (t : Part) (rays : List Float) (polygons : List ℕ) (times : List Float) → Cast t rays 0 polygons polygons times times
 cast_none t rays polygons times = record { struck = answered_none 0 _ polygons; along = answered_none nan _ times }
 
-pub cast_more : (t : Part) (rays : List Float) (k : ℕ) (polygons polygons' : List ℕ) (times times' : List Float) (none a : ℕ) (r : Ray) (h : Hit) (z : Float) →
+pub cast_more : (t : Part) (rays : List Float) (k : ℕ) (polygons polygons' : List ℕ) (times times' : List Float) (none a : ℕ) (r : Ray) (h : Option Hit) (z : Float) →
     k < length polygons → k < length times → none ≡ t.polygons → r ≡ ray_at rays k → h ≡ hit_of t r → a ≡ polygon_or none h → z ≡ time_or_zero h →
     Cast t rays k polygons polygons' times times' → Cast t rays (k + 1) polygons (set polygons' k a) times (set times' k z)
 cast_more t rays k polygons polygons' times times' none a r h z lp lt en er eh ea ez w =
@@ -42,10 +42,10 @@ cast_more t rays k polygons polygons' times times' none a r h z lp lt en er eh e
     }
 
 -- the number of a polygon, or that for none, is small
-pub polygon_small : (s : List ℕ) (at : Regions) (r : Ray) (h : Hit) (a : ℕ) → Placed s at → h ≡ hit_of (part_of s) r → a ≡ polygon_or at.polygons h → a ≤ 4096
+pub polygon_small : (s : List ℕ) (at : Regions) (r : Ray) (h : Option Hit) (a : ℕ) → Placed s at → h ≡ hit_of (part_of s) r → a ≡ polygon_or at.polygons h → a ≤ 4096
 unfolding polygon_or
-polygon_small s at r Nothing a p eh ea = omega (arith, ea, p.laid.few)
-polygon_small s at r (At q t) a p eh ea = omega (arith, ea, p.laid.few, placed_polygons s at p, (hit_struck (part_of s) r q t (sym eh)).0)
+polygon_small s at r None a p eh ea = omega (arith, ea, p.laid.few)
+polygon_small s at r (Some h) a p eh ea = omega (arith, ea, p.laid.few, placed_polygons s at p, (hit_struck (part_of s) r h (sym eh)).0)
 
 -- ---- the answer
 -- what the test of 10 leaves

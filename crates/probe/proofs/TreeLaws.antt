@@ -22,7 +22,7 @@ use Rattle.solid_faces.proofs.BodyLaws.{checked_readable}
 use Rattle.solid_boxes.specs.Tree.{tree_reals, tree_words, PartTree}
 use Rattle.scratch.specs.Regions.{words_needed, reals_needed}
 use Rattle.scratch.specs.Refusal.{too_little, body_refusal_of}
-use Rattle.scratch.proofs.RefusalLaws.{put_checked}
+use Rattle.scratch.proofs.RefusalLaws.{refusal_numbers, put_checked}
 use Rattle.probe.specs.Tree.{TreePut}
 
 module _ (s words : List ℕ) (reals : List Float) (r : ℕ) (e : r ≡ body_refusal_of s (length words) (length reals)) where
@@ -39,17 +39,17 @@ module _ (s words : List ℕ) (reals : List Float) (r : ℕ) (e : r ≡ body_ref
   module _ (z : r ≡ 0) where
     -- the cells that a tree needs are a part of those that the body needs
     pub tree_room : (tree_words (polygon_count_of s) ≤ length words) × (tree_reals (polygon_count_of s) ≤ length reals)
-    unfolding body_refusal_of too_little
+    unfolding too_little
     tree_room =
         let few_words = ltb (length words) (words_needed (polygon_count_of s) (vertex_count_of s)) in
         let few-reals = ltb (length reals) (reals_needed (polygon_count_of s) (vertex_count_of s)) in
-        let t = (passed (number (body_verdict s)) (too_little s (length words) (length reals)) (sym e ∙ z)).1 in
+        let t = (passed (number (body_verdict s)) (too_little s (length words) (length reals)) (sym (refusal_numbers s (length words) (length reals)) ∙ sym e ∙ z)).1 in
         let w : words_needed (polygon_count_of s) (vertex_count_of s) ≤ length words = ltb-false _ _ (or_false_left few_words few-reals t) in
         let f : reals_needed (polygon_count_of s) (vertex_count_of s) ≤ length reals = ltb-false _ _ (or_false_right few_words few-reals t) in
         (omega (arith, w), omega (arith, f))
 
     pub tree_few : polygon_count_of s ≤ 4096
-    tree_few = (readable_counts s (checked_readable s (put_checked s (length words) (length reals) r e z))).1
+    tree_few = (readable_counts s (checked_readable s (put_checked s (length words) (length reals) (sym e ∙ z)))).1
 
     -- x and y: what the tree's two parts hold at the end
     at_count : (x : List Float) (y : List ℕ) → length x ≡ tree_reals (polygon_count_of s) - 0 → length y ≡ tree_words (polygon_count_of s) - 0 → PartTree (part_of s) x y →

@@ -2,10 +2,11 @@
 ghost use Rattle.probe.specs.Cast.{RaysCast};
 
 use crate::rays::ray_at;
-use refusal::{ACCEPTED, TOO_LITTLE_SCRATCH};
+use refusal::Refusal;
 use scratch::body::put_body;
 use scratch::regions::{Regions, Stages};
 use scratch::verdict::body_refusal;
+use wall_ray::strike::{polygon_or, time_or_zero};
 use wall_tree::raycast::raycast;
 
 // Puts the body of a part into the lent scratch, and for each ray the polygon that it strikes and how far along, and answers 0; or answers the
@@ -22,13 +23,12 @@ pub extern "C" fn gablemadder_raycast(
     ensures { RaysCast file.now words.old words.new reals.old reals.new rays.now
         polygons.old polygons.new times.old times.new result }
 {
-    let refusal = body_refusal(file, words.len(), reals.len());
-    if refusal != ACCEPTED {
-        return refusal;
+    if let Err(refusal) = body_refusal(file, words.len(), reals.len()) {
+        return refusal.number();
     }
     let n = rays.len() / 6;
     if (polygons.len() < n) | (times.len() < n) {
-        return TOO_LITTLE_SCRATCH;
+        return Refusal::TooLittleScratch.number();
     }
     let at = Regions::of(
         file,
@@ -38,12 +38,10 @@ pub extern "C" fn gablemadder_raycast(
         },
     );
     put_body(file, words, reals, at);
-    let mut k: usize = 0;
-    while k < n {
+    for k in 0..n {
         let hit = raycast(file, words, reals, at, ray_at(rays, k));
-        polygons[k] = hit.polygon_or(at.polygons) as u32;
-        times[k] = hit.time_or_zero();
-        k += 1;
+        polygons[k] = polygon_or(hit, at.polygons) as u32;
+        times[k] = time_or_zero(hit);
     }
-    ACCEPTED
+    0
 }

@@ -2,7 +2,7 @@
 ghost use Rattle.probe.specs.Open.{RaysOpen};
 
 use crate::rays::ray_at;
-use refusal::{ACCEPTED, TOO_LITTLE_SCRATCH};
+use refusal::Refusal;
 use scratch::body::put_body;
 use scratch::regions::{Regions, Stages};
 use scratch::verdict::body_refusal;
@@ -21,13 +21,12 @@ pub extern "C" fn gablemadder_open_towards(
     ensures { RaysOpen file.now words.old words.new reals.old reals.new rays.now
         cells.old cells.new result }
 {
-    let refusal = body_refusal(file, words.len(), reals.len());
-    if refusal != ACCEPTED {
-        return refusal;
+    if let Err(refusal) = body_refusal(file, words.len(), reals.len()) {
+        return refusal.number();
     }
     let n = rays.len() / 6;
     if cells.len() < n {
-        return TOO_LITTLE_SCRATCH;
+        return Refusal::TooLittleScratch.number();
     }
     let at = Regions::of(
         file,
@@ -37,11 +36,9 @@ pub extern "C" fn gablemadder_open_towards(
         },
     );
     put_body(file, words, reals, at);
-    let mut k: usize = 0;
-    while k < n {
+    for k in 0..n {
         let ray = ray_at(rays, k);
         cells[k] = open_towards(file, words, reals, at, ray.origin, ray.dir) as u32;
-        k += 1;
     }
-    ACCEPTED
+    0
 }

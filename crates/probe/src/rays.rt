@@ -21,8 +21,5 @@ pub(crate) fn ray_at(rays: &[f64], k: usize) -> Ray
         y: rays[at + 4],
         z: rays[at + 5],
     };
-    Ray {
-        origin: origin,
-        dir: dir,
-    }
+    Ray { origin, dir }
 }

@@ -7,9 +7,7 @@ ghost use Rattle.probe.specs.Each.{Each};
 pub extern "C" fn gablemadder_sqrt_each(values: &mut [f64])
     ensures { Each root values.old values.new }
 {
-    let mut i: usize = 0;
-    while i < values.len() {
-        values[i] = num_root::sqrt(values[i]);
-        i += 1;
+    for value in values.iter_mut() {
+        *value = num_root::sqrt(*value);
     }
 }

@@ -4,7 +4,7 @@ ghost use Rattle.std.specs.Float.{nan};
 ghost use Rattle.probe.specs.SampleList.{face_cells_of, number_cells_of, SamplesListed};
 ghost use Rattle.probe.specs.Work.{Row};
 
-use refusal::{ACCEPTED, TOO_LITTLE_SCRATCH};
+use refusal::Refusal;
 use scratch::body::put_body;
 use scratch::regions::{Regions, Stages};
 use scratch::verdict::body_refusal;
@@ -48,9 +48,8 @@ pub extern "C" fn gablemadder_sample_list(
     ensures { SamplesListed file.now words.old words.new reals.old reals.new
         faces.old faces.new numbers.old numbers.new result }
 {
-    let refusal = body_refusal(file, words.len(), reals.len());
-    if refusal != ACCEPTED {
-        return refusal;
+    if let Err(refusal) = body_refusal(file, words.len(), reals.len()) {
+        return refusal.number();
     }
     let at = Regions::of(
         file,
@@ -61,15 +60,13 @@ pub extern "C" fn gablemadder_sample_list(
     );
     let most = at.polygons;
     if (faces.len() < 2 * most + 1) | (numbers.len() < 8 * most) {
-        return TOO_LITTLE_SCRATCH;
+        return Refusal::TooLittleScratch.number();
     }
     let count = put_body(file, words, reals, at);
     let n = put_samples(file, words, reals, at, count);
-    let mut k: usize = 0;
-    while k < n {
+    for k in 0..n {
         put_sample(faces, numbers, k, sample_at(file, words, reals, at, k));
-        k += 1;
     }
     faces[0] = n as u32;
-    ACCEPTED
+    0
 }

@@ -1,6 +1,27 @@
 -- The numbers of the refusals, each below its condition; 0 is none, and stands as 0. Definitions only.
 -- They are `abbrev`s: what is proved of an answer compares numbers, and sees them.
 use Rattle.std.specs.Prelude.{ℕ}
+use Rattle.refusal.specs.declared.Refusal.{Refusal}
+use Rattle.refusal.specs.declared.Refusal.TheVariants.{TooShort, WrongEdition, TooLarge, WrongLength, BadJob, BadVertex, BadPolygon, FlatPolygon, TooManyFaces, TooLittleScratch, TooManyFaults, ReportTooLong, NoDecimal, BadLine, UndefinedVertex, OutputTooShort}
+
+-- the number of a refusal
+abbrev pub number : Refusal → ℕ
+number TooShort = 1
+number WrongEdition = 2
+number TooLarge = 3
+number WrongLength = 4
+number BadJob = 5
+number BadVertex = 6
+number BadPolygon = 7
+number FlatPolygon = 8
+number TooManyFaces = 9
+number TooLittleScratch = 10
+number TooManyFaults = 11
+number ReportTooLong = 12
+number NoDecimal = 13
+number BadLine = 14
+number UndefinedVertex = 15
+number OutputTooShort = 16
 
 -- ---- of a part file, by its bytes
 -- shorter than 144 bytes

@@ -4,10 +4,10 @@
 
 ghost use Rattle.std.specs.Prelude.{◌≤◌};
 
-use dfm_own::dfm_core::answer::Answer;
 use dfm_own::{check_own, check_rowless};
 use dfm_print::{print_first, put_answer};
 use file_field::read::u32_at;
+use refusal::Refusal;
 use std::io;
 use std::io::{Read, Write};
 use stream::read_full;
@@ -33,16 +33,6 @@ struct Lent {
     report: usize,
 }
 
-// The lesser of two numbers.
-fn lesser(a: usize, b: usize) -> usize
-    ensures { result ≤ b }
-{
-    if a < b {
-        return a;
-    }
-    b
-}
-
 // Checks a file with 512 fault rows, or with none.
 fn check_with(
     file: &[u8],
@@ -50,7 +40,7 @@ fn check_with(
     reals: &mut [f64],
     rows: usize,
     report: &mut [u8],
-) -> Answer {
+) -> Result<usize, Refusal> {
     if rows == 0 {
         return check_rowless(file, words, reals, report);
     }
@@ -66,9 +56,9 @@ fn answer<W: Write>(
     report: &mut [u8],
     lent: Lent,
 ) -> io::Result<()> {
-    let w = lesser(lent.words, words.len());
-    let r = lesser(lent.reals, reals.len());
-    let b = lesser(lent.report, report.len());
+    let w = lent.words.min(words.len());
+    let r = lent.reals.min(reals.len());
+    let b = lent.report.min(report.len());
     let answer = check_with(
         file,
         &mut words[..w],

@@ -4,7 +4,8 @@
 
 ghost use Rattle.std.specs.Prelude.{◌<◌};
 
-use refusal::NO_DECIMAL;
+use num_text::text::Text;
+use refusal::Refusal;
 use std::io;
 use std::io::{Read, Write};
 use stream::read_full;
@@ -30,24 +31,23 @@ fn pattern(digits: &[u8]) -> u64 {
 }
 
 // x with so many places after a blank, or the refusal.
-fn put_places(out: &mut [u8], at: usize, x: f64, places: u32) -> usize {
-    let start = num_text::put::put_byte(out, at, b' ');
-    let end = num_text::decimal::put_decimal(out, start, x, places);
-    if start < end {
-        return end;
+fn put_places(text: &mut Text<'_>, x: f64, places: u32) {
+    text.put_byte(b' ');
+    let start = text.at;
+    text.put_decimal(x, places);
+    if text.at == start {
+        text.put_bytes(b"refused ");
+        text.put_number(u64::from(Refusal::NoDecimal.number()));
     }
-    let told = num_text::put::put_bytes(out, start, b"refused ");
-    num_text::number::put_number(out, told, NO_DECIMAL as u64)
 }
 
-fn put_line(out: &mut [u8], b: u64) -> usize {
+fn put_line(text: &mut Text<'_>, b: u64) {
     let x = num_real::bits::from_bits(b);
-    let a0 = num_text::number::put_hex(out, 0, num_root::sqrt_bits(b));
-    let a1 = put_places(out, a0, x, 0);
-    let a2 = put_places(out, a1, x, 1);
-    let a3 = put_places(out, a2, x, 2);
-    let a4 = put_places(out, a3, x, 3);
-    num_text::put::put_byte(out, a4, b'\n')
+    text.put_hex(num_root::sqrt_bits(b));
+    for places in 0..4u32 {
+        put_places(text, x, places);
+    }
+    text.put_byte(b'\n');
 }
 
 // Replays a line; false where there is none.
@@ -60,9 +60,13 @@ fn replay_line<R: Read, W: Write>(input: &mut R, output: &mut W) -> io::Result<b
     let mut line_feed = [0u8; 1];
     read_full(input, &mut line_feed)?;
     let mut line = [0u8; 128];
-    let end = put_line(&mut line, b);
-    if end <= 128 {
-        output.write_all(&line[..end])?;
+    let mut text = Text {
+        out: &mut line,
+        at: 0,
+    };
+    put_line(&mut text, b);
+    if text.at <= text.out.len() {
+        output.write_all(text.written())?;
     }
     Ok(true)
 }

@@ -2,25 +2,20 @@
 use mathlib.Core.Path.{◌≡◌, refl, sym, ap, ◌∙◌}
 use mathlib.Core.Bool.{Bool, true, false, not, ◌&&◌, cond}
 use mathlib.Core.List.{List, [], ◌∷◌, ◌++◌, append-nil}
-use Prim.Native.Nat.{ℕ, zero, suc, ◌+◌, ◌≤◌, ◌<◌, ◌^◌}
+use Prim.Native.Nat.{ℕ, suc, ◌+◌, ◌≤◌, ◌<◌, ◌^◌}
 use native.Mathlib.Numerals.{add-one}
-use lib.Dec.{eqb, eqb-suc-zero}
+use lib.Dec.{eqb}
 use lib.ListN.{length, drop, get_or, replicate, drop_of_length-le}
 use lib.Seq.{drop-cons}
 use Rattle.num_text.specs.Put.{Put}
-use Rattle.num_text.proofs.PutLaws.{put_none, put_same, put_then}
+use Rattle.num_text.specs.Text.{Adds}
+use Rattle.num_text.specs.declared.text.Text.{Text}
+use Rattle.num_text.proofs.TextLaws.{adds_none, adds_same, adds_then}
 use Rattle.replay_packed.specs.Packed.{unpacked}
 
 -- ---- a byte alone
-pub alone_count : (z : Bool) (b : ℕ) → z ≡ true → replicate b 0 ≡ unpacked z (b ∷ [])
-alone_count z b e = rw e (sym (append-nil (replicate b 0)))
-
 pub alone_zero : (z : Bool) (b : ℕ) → z ≡ false → b ≡ 0 → [] ≡ unpacked z (b ∷ [])
 alone_zero z b e h = rw (e, h)
-
-pub alone_other : (z : Bool) (b : ℕ) → z ≡ false → (b ≡ 0 → ⊥) → b ∷ [] ≡ unpacked z (b ∷ [])
-alone_other z zero e h = absurd (h refl)
-alone_other z (suc b) e h = rw (e, eqb-suc-zero b)
 
 -- ---- a byte, then the others
 unpacked_cons : (z : Bool) (b : ℕ) (bs : List ℕ) → unpacked z (b ∷ bs) ≡ unpacked z (b ∷ []) ++ unpacked (not z && eqb b 0) bs
@@ -37,12 +32,12 @@ unpacked_drop z l i h = rw add-one (sym (ap (unpacked z) (drop-cons l i 0 h) ∙
 
 -- ---- writing
 -- one turn of a loop over the bytes: byte i, then those after it
-pub put_turn : {d e f : List ℕ} {at r t : ℕ} (z : Bool) (l : List ℕ) (i : ℕ) → i < length l
-    → Put d at (unpacked z (get_or l i 0 ∷ [])) e r
-    → Put e r (unpacked (not z && eqb (get_or l i 0) 0) (drop (i + 1) l)) f t
-    → Put d at (unpacked z (drop i l)) f t
-put_turn z l i h a b = put_same _ _ (unpacked_drop z l i h) (put_then _ _ a b)
+pub adds_turn : {d e f : Text} (z : Bool) (l : List ℕ) (i : ℕ) → i < length l
+    → Adds d (unpacked z (get_or l i 0 ∷ [])) e
+    → Adds e (unpacked (not z && eqb (get_or l i 0) 0) (drop (i + 1) l)) f
+    → Adds d (unpacked z (drop i l)) f
+adds_turn z l i h a b = adds_same _ _ (unpacked_drop z l i h) (adds_then _ _ a b)
 
 -- after the last byte nothing is left to write
-pub put_end : {d : List ℕ} {at : ℕ} (z : Bool) (l : List ℕ) (i : ℕ) → length l ≤ i → length d < 2 ^ 63 → Put d at (unpacked z (drop i l)) d at
-put_end {d} {at} z l i h k = put_same [] (unpacked z (drop i l)) (sym (ap (unpacked z) (drop_of_length-le l h))) (put_none d at k)
+pub adds_end : {d : Text} (z : Bool) (l : List ℕ) (i : ℕ) → length l ≤ i → Adds d (unpacked z (drop i l)) d
+adds_end {d} z l i h = adds_same [] (unpacked z (drop i l)) (sym (ap (unpacked z) (drop_of_length-le l h))) (adds_none d)

@@ -14,7 +14,10 @@ const LONGEST_PACKED: usize = 131_072;
 // Prints the number of the file in the first bytes of `room`.
 fn print_number<W: Write>(output: &mut W, room: &[u8], length: usize) -> io::Result<()> {
     if length <= room.len() {
-        let number = file_ok::verdict::judge(&room[..length]).refusal();
+        let number = match file_ok::verdict::judge(&room[..length]) {
+            Ok(()) => 0,
+            Err(refusal) => refusal.number(),
+        };
         writeln!(output, "{number}")
     } else {
         output.write_all(b"too long\n")

@@ -1,5 +1,5 @@
 -- The printed report. Definitions only.
-use Rattle.std.specs.Prelude.{Bool, cond, List, [], ◌∷◌, ◌++◌, ℕ, length, Float}
+use Rattle.std.specs.Prelude.{Option, Some, None, List, [], ◌∷◌, ◌++◌, ℕ, length, Float}
 use Rattle.std.specs.Float.{binary64}
 use Rattle.std.specs.Float.Ieee.{to_bits}
 use Rattle.num_text.specs.Number.{numeral, hex16}
@@ -24,12 +24,13 @@ lines_text (l ∷ ls) = line_text l ++ lines_text ls
 
 -- ---- "First line, blanks between: findings (the number of lines that follow), thickness, bends, height; the two lengths are 16 lower-case
 -- hexadecimal digits of the f64, or `-` for none": 45 is the dash, 32 the blank
-unfoldable pub length_text : Bool → Float → List ℕ
-length_text known x = cond known (hex16 (to_bits binary64 x)) (45 ∷ [])
+unfoldable pub length_text : Option Float → List ℕ
+length_text (Some x) = hex16 (to_bits binary64 x)
+length_text None = 45 ∷ []
 
 unfoldable pub head_text : ℕ → Summary → List ℕ
 head_text findings x =
-    numeral findings ++ (32 ∷ (length_text x.has_thickness x.thickness ++ (32 ∷ (numeral x.bends ++ (32 ∷ (length_text x.has_height x.height ++ (10 ∷ [])))))))
+    numeral findings ++ (32 ∷ (length_text x.thickness ++ (32 ∷ (numeral x.bends ++ (32 ∷ (length_text x.height ++ (10 ∷ [])))))))
 
 unfoldable pub report_text : Summary → List Line → List ℕ
 report_text x lines = head_text (length lines) x ++ lines_text lines

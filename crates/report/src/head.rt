@@ -1,31 +1,30 @@
 // The first line: how many lines follow, the thickness, the bends, the height.
-ghost use Rattle.num_text.specs.Put.{Put};
+ghost use Rattle.num_text.specs.Text.{Adds};
 ghost use Rattle.report.specs.Text.{length_text, head_text};
 
 use fault_row::summary::Summary;
 use num_real::bits::to_bits;
-use num_text::number::{put_hex, put_number};
-use num_text::put::put_byte;
+use num_text::text::Text;
 
 // A length by its bits, or a dash.
-fn put_length(out: &mut [u8], at: usize, known: bool, x: f64) -> usize
-    ensures { Put out.old at (length_text known x) out.new result }
+fn put_length(text: &mut Text<'_>, length: Option<f64>)
+    ensures { Adds text.old (length_text length) text.new }
 {
-    if known {
-        return put_hex(out, at, to_bits(x));
+    match length {
+        Some(x) => text.put_hex(to_bits(x)),
+        None => text.put_byte(b'-'),
     }
-    put_byte(out, at, b'-')
 }
 
-pub(crate) fn put_head(out: &mut [u8], at: usize, findings: usize, summary: Summary) -> usize
-    ensures { Put out.old at (head_text findings summary) out.new result }
+pub(crate) fn put_head(text: &mut Text<'_>, findings: usize, summary: Summary)
+    ensures { Adds text.old (head_text findings summary) text.new }
 {
-    let a = put_number(out, at, findings as u64);
-    let b = put_byte(out, a, b' ');
-    let c = put_length(out, b, summary.has_thickness, summary.thickness);
-    let d = put_byte(out, c, b' ');
-    let e = put_number(out, d, summary.bends as u64);
-    let f = put_byte(out, e, b' ');
-    let g = put_length(out, f, summary.has_height, summary.height);
-    put_byte(out, g, 10)
+    text.put_number(findings as u64);
+    text.put_byte(b' ');
+    put_length(text, summary.thickness);
+    text.put_byte(b' ');
+    text.put_number(summary.bends as u64);
+    text.put_byte(b' ');
+    put_length(text, summary.height);
+    text.put_byte(10);
 }

@@ -3,7 +3,6 @@
 
 mod head;
 mod line;
-mod name;
 mod order;
 pub mod report;
 

@@ -13,16 +13,11 @@ use crate::head::put_head;
 use crate::line::put_lines;
 use crate::order::put_leads;
 use fault_row::summary::Summary;
+use num_text::text::Text;
+use refusal::Refusal;
 use report_faces::fault_merge::merge::merge;
 use report_faces::links::put_links;
 use report_faces::marks::Listing;
-
-// How a report ends: written with so many bytes, or not at all.
-#[derive(Clone, Copy)]
-pub enum Written {
-    Bytes(usize),
-    TooLong,
-}
 
 // The report of faults whose lines are known, from the start of `out` on.
 fn put_report(
@@ -41,13 +36,15 @@ fn put_report(
     ensures { Put out.old 0 (report_text summary (lines_of (faults_to (part_of file.now) cells.now numbers.now given.faults))) out.new result }
 {
     let mut marks = [0u32; 1024];
-    let at = put_head(out, 0, order.len(), summary);
+    let mut text = Text { out, at: 0 };
+    put_head(&mut text, order.len(), summary);
     put_lines(
-        out, at, &mut marks, file, words, given, work, order, cells, numbers,
-    )
+        &mut text, &mut marks, file, words, given, work, order, cells, numbers,
+    );
+    text.at
 }
 
-// The report of a part whose faults stand as rows: measured first, and written if it fits. The work slice has four cells for each fault, and then one
+// The report of a part whose faults stand as rows: measured first, and written if it fits. How many bytes it has. The work slice has four cells for each fault, and then one
 // for each polygon; `order` has one for each fault.
 fn write_with(
     work: &mut [u32],
@@ -59,7 +56,7 @@ fn write_with(
     cells: &[u32],
     numbers: &[f64],
     summary: Summary,
-) -> Written
+) -> Result<usize, Refusal>
     requires fact_1 { Kept file.now words.now given cells.now numbers.now }
     requires fact_2 { 4 * given.faults + given.at.polygons ≤ length work.old }
     requires fact_3 { given.faults ≤ length order.old }
@@ -82,7 +79,7 @@ fn write_with(
         summary,
     );
     if report.len() < length {
-        return Written::TooLong;
+        return Err(Refusal::ReportTooLong);
     }
     put_report(
         report,
@@ -95,10 +92,10 @@ fn write_with(
         numbers,
         summary,
     );
-    Written::Bytes(length)
+    Ok(length)
 }
 
-// The report of a part whose faults stand as rows. A small part is spared the cells of a large one.
+// The report of a part whose faults stand as rows: how many bytes it has, or 12. A small part is spared the cells of a large one.
 pub fn write_report(
     report: &mut [u8],
     file: &[u8],
@@ -107,7 +104,7 @@ pub fn write_report(
     cells: &[u32],
     numbers: &[f64],
     summary: Summary,
-) -> Written
+) -> Result<usize, Refusal>
     requires { Kept file.now words.now given cells.now numbers.now }
     ensures { Reported (report_text summary (lines_of (faults_to (part_of file.now) cells.now numbers.now given.faults))) report.old report.new result }
 {

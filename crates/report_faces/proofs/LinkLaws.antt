@@ -3,11 +3,11 @@ use mathlib.Core.Path.{◌≡◌, refl, sym, ap, subst, ◌∙◌}
 use mathlib.Core.Bool.{Bool, true, false}
 use mathlib.Core.List.{List}
 use mathlib.Core.Logic.{◌⊎◌, inl, inr}
-use Prim.Native.Nat.{ℕ, ◌+◌, ◌*◌, ◌-◌, ◌≤◌, ◌<◌}
+use Prim.Native.Nat.{ℕ, ◌+◌, ◌-◌, ◌≤◌, ◌<◌}
 use native.Mathlib.Nat.{zero-add}
 use native.Mathlib.Omega.{arith}
 use lib.Dec.{eqb}
-use lib.ListN.{length, get_or, set, length-set}
+use lib.ListN.{length, get_or, set, take, length-set}
 use lib.Seq.{get_or-set_same, get_or-set_other}
 use lib.Ieee.{Float}
 use borrow.Author.Tests.{eqb-true, eq-eqb, ne_eqb}
@@ -20,7 +20,7 @@ use Rattle.scratch.specs.declared.regions.Regions.{Regions}
 use Rattle.scratch.proofs.StandingLaws.{placed_polygons}
 use Rattle.fault_merge.specs.Work.{Front}
 use Rattle.report_faces.specs.declared.marks.Listing.{Listing}
-use Rattle.report_faces.specs.Work.Search.{Passed, Next}
+use Rattle.report_faces.specs.Work.Search.{Next}
 use Rattle.report_faces.specs.Work.{Low, LinkedAt, Linked, Linking, Links, Cells, Kept}
 use Rattle.report_faces.proofs.SearchLaws.{passed_none, next_end, next_hit}
 
@@ -154,6 +154,10 @@ module _ (labels : List ℕ) (from : ℕ) where
             (one_before (λ q. eqb (get_or labels q 0) c) p (length labels) (get_or work (from + c) 0) (so_far.open_at c (omega (arith, h))) (ne_eqb (get_or labels p 0) c (λ z. off (sym z ∙ sym e))))
 
 -- ---- the links of a part
+-- a part from the front on
+pub front_part : (n : ℕ) (words : List ℕ) → take n words ≡ part 0 n words
+front_part n words = let same : n ≡ n - 0 = omega arith in ap (λ (k : ℕ). take k words) same
+
 pub labels_long : (n : ℕ) (words : List ℕ) → n ≤ length words → length (part 0 n words) ≡ n
 labels_long n words l = part_length 0 n words l ∙ omega arith
 

@@ -17,10 +17,8 @@ fn open_links(work: &mut [u32], from: usize, labels: &[u32])
     ensures fact_2 { Front from work.old work.new }
 {
     let n = labels.len();
-    let mut b: usize = 0;
-    while b < n {
+    for b in 0..n {
         work[from + b] = n as u32;
-        b += 1;
     }
 }
 
@@ -52,9 +50,7 @@ fn link_all(work: &mut [u32], from: usize, labels: &[u32])
     ensures fact_2 { Front from work.old work.new }
 {
     open_links(work, from, labels);
-    let mut p = labels.len();
-    while 0 < p {
-        p -= 1;
+    for p in (0..labels.len()).rev() {
         link(work, from, labels, p);
     }
 }
@@ -71,7 +67,5 @@ pub fn put_links(work: &mut [u32], from: usize, words: &[u32], at: Regions)
     if !at.bodies {
         return;
     }
-    let start: usize = 0;
-    let end = at.polygons;
-    link_all(work, from, &words[start..end]);
+    link_all(work, from, &words[..at.polygons]);
 }

@@ -4,7 +4,7 @@ ghost use Rattle.report_faces.specs.Named.{named_of, named_at, is_many};
 
 use fault_row::flaw::{Flaw, flaw_at};
 
-#[derive(Clone, Copy)]
+#[derive(Clone, Copy, Debug, PartialEq, Eq)]
 pub enum Named {
     NoFace,
     // faces by their numbers
@@ -18,38 +18,37 @@ pub enum Named {
     Body(u32),
 }
 
+#[tactic(auto, unfolding(crate::specs::Named::named_of))]
 pub(crate) fn named_of(flaw: Flaw) -> Named
     ensures { result ≡ named_of flaw }
 {
     match flaw {
-        Flaw::ThinWall(_, f, g, _) => Named::Two(f, g),
-        Flaw::SmallHole(f, _) => Named::One(f),
-        Flaw::DeepHoleMax(f, _, _, _) => Named::One(f),
-        Flaw::DeepHoleStandard(f, _) => Named::One(f),
-        Flaw::TightInsideRadius(f, _) => Named::One(f),
-        Flaw::DeepInsideCorner(f, _, _, _) => Named::One(f),
-        Flaw::SharpInsideCorner(f, g, _, _) => Named::Two(f, g),
-        Flaw::NoMaterial => Named::NoFace,
-        Flaw::Material => Named::NoFace,
-        Flaw::NotOneThickness(_, _, _) => Named::Off,
-        Flaw::TightBend(f, g, _, _) => Named::Two(f, g),
-        Flaw::ShortFlange(f, g, _, _) => Named::Two(f, g),
-        Flaw::SheetSmallHole(f, _, _) => Named::One(f),
-        Flaw::HoleNearBend(f, g, _, _) => Named::Two(f, g),
-        Flaw::HoleNearEdge(f, g, _, _) => Named::Two(f, g),
-        Flaw::NotClosed(_) => Named::NoFace,
-        Flaw::ThinnerThanALayer(f, g, _) => Named::Two(f, g),
-        Flaw::FewLayers(f, g, _, _) => Named::Two(f, g),
-        Flaw::ThinnerThanTheNozzle(f, g, _) => Named::Two(f, g),
-        Flaw::PrintThinWall(_, f, g, _) => Named::Two(f, g),
-        Flaw::PrintSmallHole(f, _) => Named::One(f),
-        Flaw::Overhang(_, _) => Named::Hanging,
-        Flaw::EnclosedHollowSla(p, _) => Named::Body(p),
-        Flaw::EnclosedHollowSls(p, _) => Named::Body(p),
+        Flaw::SmallHole(f, ..)
+        | Flaw::DeepHoleMax(f, ..)
+        | Flaw::DeepHoleStandard(f, ..)
+        | Flaw::TightInsideRadius(f, ..)
+        | Flaw::DeepInsideCorner(f, ..)
+        | Flaw::SheetSmallHole(f, ..)
+        | Flaw::PrintSmallHole(f, ..) => Named::One(f),
+        Flaw::ThinWall(_, f, g, _)
+        | Flaw::SharpInsideCorner(f, g, ..)
+        | Flaw::TightBend(f, g, ..)
+        | Flaw::ShortFlange(f, g, ..)
+        | Flaw::HoleNearBend(f, g, ..)
+        | Flaw::HoleNearEdge(f, g, ..)
+        | Flaw::ThinnerThanALayer(f, g, ..)
+        | Flaw::FewLayers(f, g, ..)
+        | Flaw::ThinnerThanTheNozzle(f, g, ..)
+        | Flaw::PrintThinWall(_, f, g, _) => Named::Two(f, g),
+        Flaw::NoMaterial | Flaw::Material | Flaw::NotClosed(..) => Named::NoFace,
+        Flaw::NotOneThickness(..) => Named::Off,
+        Flaw::Overhang(..) => Named::Hanging,
+        Flaw::EnclosedHollowSla(p, ..) | Flaw::EnclosedHollowSls(p, ..) => Named::Body(p),
     }
 }
 
 // Of the flaw of row k.
+#[tactic(auto, unfolding(crate::specs::Named::named_at))]
 pub(crate) fn named_at(cells: &[u32], numbers: &[f64], k: usize) -> Named
     requires fact_1 { 6 * k + 6 ≤ length cells.now }
     requires fact_2 { 3 * k + 3 ≤ length numbers.now }
@@ -59,15 +58,9 @@ pub(crate) fn named_at(cells: &[u32], numbers: &[f64], k: usize) -> Named
 }
 
 // Whether they are found from the part.
+#[tactic(auto, unfolding(crate::specs::Named::is_many))]
 pub(crate) fn is_many(named: Named) -> bool
     ensures { result ≡ is_many named }
 {
-    match named {
-        Named::NoFace => false,
-        Named::One(_) => false,
-        Named::Two(_, _) => false,
-        Named::Off => true,
-        Named::Hanging => true,
-        Named::Body(_) => true,
-    }
+    matches!(named, Named::Off | Named::Hanging | Named::Body(_))
 }

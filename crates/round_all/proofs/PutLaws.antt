@@ -33,7 +33,10 @@ use Rattle.round_frame.specs.Polygons.{extent_to, votes_to, directions_to}
 use Rattle.round_frame.specs.Work.{put_measure_of}
 use Rattle.round_all.specs.Round.{face_surface, is_round, face_frame, face_measure, is_concave, directions_of, is_hole}
 use Rattle.round_all.specs.Kept.{round_kind, KeptKinds}
-use Rattle.round_all.specs.Work.{CylinderPut, FacePut, StepPut}
+use Rattle.std.specs.Prelude.{Option, Some, None}
+use Rattle.round_all.specs.declared.round.RoundKind.{RoundKind}
+use Rattle.round_all.specs.declared.round.RoundKind.TheVariants.{Convex, Concave, Hole}
+use Rattle.round_all.specs.Work.{CylinderPut, kind_number, FacePut, StepPut}
 use Rattle.round_all.proofs.KeptLaws.{kinds_more, measures_more, measures_skip}
 
 -- ---- the surface of a face, and its entry in the file
@@ -92,10 +95,10 @@ module _ (t : Part) (at : Regions) (laid : Laid at) (f : ℕ) (a : Frame) (s x :
   measured_is = part_put at.rounds at.directions s x (omega (arith, room, laid)) lx ∙ is
 
   module _ (b : Bool) (votes : b ≡ lt (votes_to t f a t.polygons) vector.zero) where
-    pub put_convex : not b ≡ true → CylinderPut t at f a s measured 1
+    pub put_convex : not b ≡ true → CylinderPut t at f a s measured Convex
     put_convex h =
         record {
-          kind = sym (ap (λ (c : Bool). cond c (cond (goes_round_of (directions_to t f a t.polygons)) 3 2) 1) (sym votes ∙ not-true b h));
+          kind = sym (ap (λ (c : Bool). cond c (cond (goes_round_of (directions_to t f a t.polygons)) Hole Concave) Convex) (sym votes ∙ not-true b h));
           measures = measured_is;
           kept = measured_kept;
         }
@@ -110,12 +113,12 @@ module _ (t : Part) (at : Regions) (laid : Laid at) (f : ℕ) (a : Frame) (s x :
           outside_wide nan _ _ at.rounds at.free measured walked (omega (arith, laid)) (omega arith)
           (outside_put nan at.directions at.free measured y (omega (arith, laid)) (omega (arith, room, laid, measured_kept.long)) ly)
 
-      pub put_concave : not b ≡ false → (g r : Bool) → g ≡ goes_round_of (directions_to t f a t.polygons) → g ≡ r → CylinderPut t at f a s walked (cond r 3 2)
+      pub put_concave : not b ≡ false → (g r : Bool) → g ≡ goes_round_of (directions_to t f a t.polygons) → g ≡ r → CylinderPut t at f a s walked (cond r Hole Concave)
       put_concave h g r eg eq =
           record {
             kind =
-                sym (ap (λ (c : Bool). cond c (cond (goes_round_of (directions_to t f a t.polygons)) 3 2) 1) (sym votes ∙ not-false b h)
-                ∙ ap (λ (c : Bool). cond c 3 2) (sym eg ∙ eq));
+                sym (ap (λ (c : Bool). cond c (cond (goes_round_of (directions_to t f a t.polygons)) Hole Concave) Convex) (sym votes ∙ not-false b h)
+                ∙ ap (λ (c : Bool). cond c Hole Concave) (sym eg ∙ eq));
             measures =
                 part_before at.directions (at.free - at.directions) at.rounds at.directions measured y (omega (arith, room, laid, measured_kept.long)) (omega (arith, laid)) (omega arith)
                 ∙ measured_is;
@@ -123,29 +126,30 @@ module _ (t : Part) (at : Regions) (laid : Laid at) (f : ℕ) (a : Frame) (s x :
           }
 
 -- ---- a face
-same_kind : (b g : Bool) → ◌≡◌ {A = ℕ} (cond b (cond g 3 2) 1) (cond b (cond (b && g) 3 2) 1)
-same_kind true g = refl
+same_kind : (b g : Bool) → kind_number (Some (cond b (cond g Hole Concave) Convex)) ≡ cond b (cond (b && g) 3 2) 1
+same_kind true true = refl
+same_kind true false = refl
 same_kind false g = refl
 
 -- its numbers have their place
 pub numbers_room : (at : Regions) (f : ℕ) (s : List Float) → Laid at → f < at.polygons → at.reals ≤ length s → 7 * f + 7 ≤ length (part at.rounds at.directions s)
 numbers_room at f s laid low room = omega (arith, laid, low, part_length at.rounds at.directions s (omega (arith, laid, room)))
 
-pub face_cylinder : (t : Part) (at : Regions) (f : ℕ) (a : Frame) (s s' : List Float) (r : ℕ) → Laid at → f < at.polygons → at.reals ≤ length s → a ≡ face_frame t f →
-    is_round t f ≡ true → CylinderPut t at f a s s' r → FacePut t at f s s' r
+pub face_cylinder : (t : Part) (at : Regions) (f : ℕ) (a : Frame) (s s' : List Float) (r : RoundKind) → Laid at → f < at.polygons → at.reals ≤ length s → a ≡ face_frame t f →
+    is_round t f ≡ true → CylinderPut t at f a s s' r → FacePut t at f s s' (Some r)
 unfolding round_kind is_hole is_concave directions_of face_measure
 face_cylinder t at f a s s' r laid low room ea round h =
     let same = subst (λ (x : Frame). CylinderPut t at f x s s' r) ea h in
     record {
       kind =
-          same.kind
+          ap (λ (k : RoundKind). kind_number (Some k)) same.kind
           ∙ same_kind (lt (votes_to t f (face_frame t f) t.polygons) vector.zero) (goes_round_of (directions_to t f (face_frame t f) t.polygons))
           ∙ rw (round);
       measures = λ kept. measures_more t f (part at.rounds at.directions s) _ _ (numbers_room at f s laid low room) refl same.measures kept;
       kept = same.kept;
     }
 
-pub face_none : (t : Part) (at : Regions) (f : ℕ) (s : List Float) → Laid at → f < at.polygons → at.reals ≤ length s → is_round t f ≡ false → FacePut t at f s s 0
+pub face_none : (t : Part) (at : Regions) (f : ℕ) (s : List Float) → Laid at → f < at.polygons → at.reals ≤ length s → is_round t f ≡ false → FacePut t at f s s None
 unfolding round_kind
 face_none t at f s laid low room flat = record {
   kind = rw (flat);
@@ -154,14 +158,14 @@ face_none t at f s laid low room flat = record {
 }
 
 -- its kind put too
-pub step_put : (t : Part) (at : Regions) (f kind : ℕ) (words : List ℕ) (s s' : List Float) → Laid at → at.words ≤ length words → f < at.polygons → FacePut t at f s s' kind →
+pub step_put : (t : Part) (at : Regions) (f kind : ℕ) (words : List ℕ) (s s' : List Float) (r : Option RoundKind) → kind ≡ kind_number r → Laid at → at.words ≤ length words → f < at.polygons → FacePut t at f s s' r →
     StepPut t at f words (set words (at.kinds + f) kind) s s'
-step_put t at f kind words s s' laid room low h =
+step_put t at f kind words s s' r e laid room low h =
     let long = part_length at.kinds at.ranks words (omega (arith, room, laid)) in
     record {
       kinds = λ kept.
           subst (KeptKinds t (f + 1)) (sym (part_set at.kinds at.ranks words f kind (omega (arith, low, laid)) (omega (arith, room, laid))))
-          (kinds_more t f (part at.kinds at.ranks words) kind (omega (arith, long, low, laid)) h.kind kept);
+          (kinds_more t f (part at.kinds at.ranks words) kind (omega (arith, long, low, laid)) (e ∙ h.kind) kept);
       measures = h.measures;
       words_kept = outside_set 0 at.kinds at.ranks words (at.kinds + f) kind (omega arith) (omega (arith, low, laid));
       reals_kept = h.kept;

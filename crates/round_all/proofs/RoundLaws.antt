@@ -1,6 +1,6 @@
 -- A round read back from the scratch.
 use mathlib.Core.Path.{◌≡◌, refl, sym, ◌∙◌}
-use mathlib.Core.Bool.{Bool, true, false, ◌&&◌, cond}
+use mathlib.Core.Bool.{Bool, true, false, not, ◌&&◌, cond}
 use mathlib.Core.List.{List, [], ◌∷◌, ◌++◌}
 use Prim.Native.Nat.{ℕ, ◌+◌, ◌<◌}
 use native.Mathlib.Omega.{arith}
@@ -20,6 +20,11 @@ use Rattle.round_frame.specs.declared.measure.Measure.{Measure}
 use Rattle.round_all.specs.declared.round.Round.{Round}
 use Rattle.round_all.specs.Round.{face_surface, origin_of, radius_of, is_round, face_measure, is_concave, directions_of, is_hole, round_of, rounds_to}
 use Rattle.round_all.specs.Kept.{round_kind, Rounds}
+use denote.Enum.Bare.{sameb}
+use Rattle.round_all.specs.contracts.round.RoundKind as round-kind
+use Rattle.round_all.specs.declared.round.RoundKind.{RoundKind}
+use Rattle.round_all.specs.declared.round.RoundKind.TheVariants.{Convex, Hole}
+use Rattle.round_all.specs.Work.{kind_of}
 use Rattle.round_frame.specs.Measure.{measure_at}
 use Rattle.round_hole.specs.Direction.{goes_round_of}
 
@@ -60,11 +65,34 @@ module _ (t : Part) (at : Regions) (words : List ℕ) (reals : List Float) (f : 
   measure_kept round = kept.measures.each f low round
 
 -- ---- all of it
-pub round_read : (t : Part) (f kind : ℕ) (x : SurfaceKind) (o : Vec3) (radius : Float) (m : Measure) → is_round t f ≡ true → kind ≡ round_kind t f →
+-- is k a kind c
+abbrev is_kind : RoundKind → RoundKind → Bool
+is_kind k c = sameb round-kind.the_type k c
+
+concave_read : (b g : Bool) → not (is_kind (kind_of (cond b (cond (b && g) 3 2) 1)) Convex) ≡ b
+concave_read true true = refl
+concave_read true false = refl
+concave_read false g = refl
+
+hole_read : (b g : Bool) → is_kind (kind_of (cond b (cond (b && g) 3 2) 1)) Hole ≡ (b && g)
+hole_read true true = refl
+hole_read true false = refl
+hole_read false g = refl
+
+kept_concave : (t : Part) (f : ℕ) → is_round t f ≡ true → not (is_kind (kind_of (round_kind t f)) Convex) ≡ is_concave t f
+unfolding round_kind is_hole
+kept_concave t f h = rw (h, concave_read (is_concave t f) (goes_round_of (directions_of t f)))
+
+kept_hole : (t : Part) (f : ℕ) → is_round t f ≡ true → is_kind (kind_of (round_kind t f)) Hole ≡ is_hole t f
+unfolding round_kind is_hole
+kept_hole t f h = rw (h, hole_read (is_concave t f) (goes_round_of (directions_of t f)))
+
+pub round_read : (t : Part) (f number : ℕ) (k : RoundKind) (x : SurfaceKind) (concave hole : Bool) (o : Vec3) (radius : Float) (m : Measure) → is_round t f ≡ true →
+    number ≡ round_kind t f → k ≡ kind_of number → concave ≡ not (sameb round-kind.the_type k Convex) → hole ≡ sameb round-kind.the_type k Hole →
     x ≡ face_surface t f → o ≡ origin_of x → radius ≡ radius_of x → m ≡ face_measure t f →
-    ◌≡◌ {A = Round} (record { face = f; origin = o; axis = m.axis; radius = radius; concave = ltb 1 kind; hole = eqb kind 3; length = m.length; centre = m.centre }) (round_of t f)
+    ◌≡◌ {A = Round} (record { face = f; origin = o; axis = m.axis; radius = radius; concave = concave; hole = hole; length = m.length; centre = m.centre }) (round_of t f)
 unfolding round_of
-round_read t f kind x o radius m round ek ex eo er em = rw (eo, er, ex, em, ek, kind_concave t f round, kind_hole t f round)
+round_read t f number k x concave hole o radius m round en ek ec eh ex eo er em = rw (ec, eh, ek, en, eo, er, ex, em, kept_concave t f round, kept_hole t f round)
 
 -- ---- the rounds of a part, one face more
 pub rounds_more : (t : Part) (f : ℕ) → is_round t f ≡ true → rounds_to t (f + 1) ≡ rounds_to t f ++ (round_of t f ∷ [])

@@ -14,10 +14,9 @@ ghost use Rattle.round_frame.specs.Work.{Central, put_measure_of};
 ghost use Rattle.round_frame.specs.Polygons.{extent_to, votes_to};
 ghost use Rattle.round_all.specs.Round.{face_surface, origin_of, radius_of, is_round, round_of};
 ghost use Rattle.round_all.specs.Kept.{Rounds};
-ghost use Rattle.round_all.specs.Work.{CylinderPut, FacePut, StepPut};
+ghost use Rattle.round_all.specs.Work.{CylinderPut, kind_number, kind_of, FacePut, StepPut};
 
 use file_part::read::{SurfaceKind, entry_at, surface};
-use list_cells::wide;
 use math::Vec3;
 use round_frame::bore::is_bore;
 use round_frame::extent::face_extent;
@@ -25,6 +24,14 @@ use round_frame::frame::Frame;
 use round_frame::measure::{Measure, measure_at, put_measure};
 use round_frame::votes::face_votes;
 use scratch::regions::Regions;
+
+// What a cylinder is: its material is inside; or outside, and its vertices do not go round; or outside, and they do.
+#[derive(Clone, Copy, Debug, PartialEq, Eq)]
+enum RoundKind {
+    Convex,
+    Concave,
+    Hole,
+}
 
 // A face whose surface is a cylinder.
 #[derive(Clone, Copy)]
@@ -73,7 +80,7 @@ fn is_concave(
     face_votes(file, chain, planes, areas, first, frame) < 0.0
 }
 
-// Keeps what is to be kept of a cylinder, face f. What it is: 1 convex, 2 concave and no hole, 3 a hole.
+// Keeps what is to be kept of a cylinder, face f. What it is.
 fn put_cylinder(
     file: &[u8],
     words: &[u32],
@@ -81,53 +88,45 @@ fn put_cylinder(
     at: Regions,
     f: usize,
     frame: Frame,
-) -> u32
+) -> RoundKind
     requires fact_1 { Standing file.now at words.now reals.old }
     requires fact_2 { f < faces_of (part_of file.now) }
     requires fact_3 { Central frame }
     ensures { CylinderPut (part_of file.now) at f frame reals.old reals.new result }
 {
-    let firsts = at.firsts;
-    let first = wide(words[firsts + f]);
-    let chain = at.chain;
-    let chain_end = at.faces;
-    let rounds = at.rounds;
-    let directions = at.directions;
+    let first = words[at.firsts + f] as usize;
+    let chain = &words[at.chain..at.faces];
     put_extent(
         file,
-        &words[chain..chain_end],
-        &mut reals[rounds..directions],
+        chain,
+        &mut reals[at.rounds..at.directions],
         f,
         first,
         frame,
     );
-    let start: usize = 0;
-    let areas = at.areas;
-    let totals = at.totals;
     if !is_concave(
         file,
-        &words[chain..chain_end],
-        &reals[start..areas],
-        &reals[areas..totals],
+        chain,
+        &reals[0..at.areas],
+        &reals[at.areas..at.totals],
         first,
         frame,
     ) {
-        return 1;
+        return RoundKind::Convex;
     }
-    let end = at.free;
     if is_bore(
         file,
-        &words[chain..chain_end],
-        &mut reals[directions..end],
+        chain,
+        &mut reals[at.directions..at.free],
         first,
         frame,
     ) {
-        return 3;
+        return RoundKind::Hole;
     }
-    2
+    RoundKind::Concave
 }
 
-// Keeps what is to be kept of face f with its surface. What it is as a round: 0 none, and the kinds of a cylinder.
+// Keeps what is to be kept of face f with its surface. What it is as a round, where it is one.
 fn put_face(
     file: &[u8],
     words: &[u32],
@@ -135,7 +134,7 @@ fn put_face(
     at: Regions,
     f: usize,
     surface: SurfaceKind,
-) -> u32
+) -> Option<RoundKind>
     requires fact_1 { Standing file.now at words.now reals.old }
     requires fact_2 { f < faces_of (part_of file.now) }
     requires fact_3 { surface ≡ face_surface (part_of file.now) f }
@@ -146,8 +145,34 @@ fn put_face(
             axis_origin,
             axis_dir,
             ..
-        } => put_cylinder(file, words, reals, at, f, Frame::new(axis_origin, axis_dir)),
-        _ => 0,
+        } => {
+            let frame = Frame::new(axis_origin, axis_dir);
+            Some(put_cylinder(file, words, reals, at, f, frame))
+        }
+        _ => None,
+    }
+}
+
+// The number that the scratch keeps for a face.
+fn kind_number(kind: Option<RoundKind>) -> u32
+    ensures { result ≡ kind_number kind }
+{
+    match kind {
+        None => 0,
+        Some(RoundKind::Convex) => 1,
+        Some(RoundKind::Concave) => 2,
+        Some(RoundKind::Hole) => 3,
+    }
+}
+
+// The kind that such a number, but for 0, stands for.
+fn kind_of(number: u32) -> RoundKind
+    ensures { result ≡ kind_of number }
+{
+    match number {
+        3 => RoundKind::Hole,
+        2 => RoundKind::Concave,
+        _ => RoundKind::Convex,
     }
 }
 
@@ -157,12 +182,10 @@ fn put_round(file: &[u8], words: &mut [u32], reals: &mut [f64], at: Regions, f: 
     requires fact_2 { f < faces_of (part_of file.now) }
     ensures { StepPut (part_of file.now) at f words.old words.new reals.old reals.new }
 {
-    let firsts = at.firsts;
-    let q = wide(words[firsts + f]);
+    let q = words[at.firsts + f] as usize;
     let surface = surface(file, entry_at(at.vertices, q));
     let kind = put_face(file, &words[..], reals, at, f, surface);
-    let kinds = at.kinds;
-    words[kinds + f] = kind;
+    words[at.kinds + f] = kind_number(kind);
 }
 
 // The rounds of a part of n faces whose body stands in the scratch.
@@ -174,10 +197,8 @@ pub fn put_rounds(file: &[u8], words: &mut [u32], reals: &mut [f64], at: Regions
     ensures outside_1 { Outside 0 at.kinds at.ranks words.old words.new }
     ensures outside_2 { Outside nan at.rounds at.free reals.old reals.new }
 {
-    let mut f: usize = 0;
-    while f < n {
+    for f in 0..n {
         put_round(file, words, reals, at, f);
-        f += 1;
     }
 }
 
@@ -209,24 +230,18 @@ pub fn round_at(file: &[u8], words: &[u32], reals: &[f64], at: Regions, f: usize
     requires f_bound_2 { is_round (part_of file.now) f ≡ true }
     ensures { result ≡ round_of (part_of file.now) f }
 {
-    let firsts = at.firsts;
-    let kinds = at.kinds;
-    let q = wide(words[firsts + f]);
-    let kind = words[kinds + f];
+    let q = words[at.firsts + f] as usize;
+    let kind = kind_of(words[at.kinds + f]);
     let surface = surface(file, entry_at(at.vertices, q));
-    let rounds = at.rounds;
-    let directions = at.directions;
-    let m = measure_at(&reals[rounds..directions], f);
-    let axis = m.axis;
-    let centre = m.centre;
+    let m = measure_at(&reals[at.rounds..at.directions], f);
     Round {
         face: f,
         origin: origin(surface),
-        axis: axis,
+        axis: m.axis,
         radius: radius(surface),
-        concave: 1 < kind,
-        hole: kind == 3,
+        concave: kind != RoundKind::Convex,
+        hole: kind == RoundKind::Hole,
         length: m.length,
-        centre: centre,
+        centre: m.centre,
     }
 }

@@ -1,6 +1,6 @@
 -- A cylinder's axis, and what `round` of dfm.rs asks of points about it. Definitions only. A polygon's corners are a function c from their
 -- numbers.
-use Rattle.std.specs.Prelude.{List, [], ◌∷◌, ◌++◌, true, false, ℕ, zero, suc, Float}
+use Rattle.std.specs.Prelude.{List, [], ◌++◌, true, false, ℕ, zero, suc, Float}
 use Rattle.std.specs.Float.{inf, binary64}
 use Rattle.std.specs.Float.Ieee.{add, sub, mul}
 use Rattle.num_real.specs.Select.{min_of, max_of}

@@ -56,10 +56,8 @@ fn run_directions(
     ensures { DirectionsPut cells.old cells.new (n + count) result (directions_in n cells.old ++ run_directions frame (corner_at file.now first) count) }
 {
     let mut m = n;
-    let mut k: usize = 0;
-    while k < count {
+    for k in 0..count {
         m = put_directions(cells, m, frame, corner(file, first + k));
-        k += 1;
     }
     m
 }
@@ -112,6 +110,7 @@ fn face_directions(
     let v = vertex_count(file);
     let mut n: usize = 0;
     let mut q = first;
+    // A while: the next polygon is the one that the chain names.
     while q < p {
         n = polygon_directions(file, v, q, frame, cells, n);
         q = chain[q] as usize;

@@ -39,10 +39,8 @@ fn run_extent(file: &[u8], first: usize, count: usize, frame: Frame, extent: Ext
     ensures { result ≡ run_extent frame (corner_at file.now first) extent count }
 {
     let mut e = extent;
-    let mut k: usize = 0;
-    while k < count {
+    for k in 0..count {
         e = e.reach(frame.height(corner(file, first + k)));
-        k += 1;
     }
     e
 }
@@ -73,6 +71,7 @@ pub fn face_extent(file: &[u8], chain: &[u32], first: usize, frame: Frame) -> Ex
         hi: -1.0 / 0.0,
     };
     let mut q = first;
+    // A while: the next polygon is the one that the chain names.
     while q < p {
         e = polygon_extent(file, v, q, frame, e);
         q = chain[q] as usize;

@@ -19,9 +19,9 @@ impl Frame {
         let axis = dir.normalized();
         let x = axis.any_perpendicular().normalized();
         Frame {
-            origin: origin,
-            axis: axis,
-            x: x,
+            origin,
+            axis,
+            x,
             y: axis.cross(x),
         }
     }

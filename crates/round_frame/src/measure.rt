@@ -21,11 +21,10 @@ impl Measure {
         ensures { result ≡ measure_of frame e }
     {
         let axis = frame.axis;
-        let origin = frame.origin;
         Measure {
-            axis: axis,
+            axis,
             length: e.hi - e.lo,
-            centre: origin.add(axis.mul(0.5 * (e.lo + e.hi))),
+            centre: frame.origin.add(axis.mul(0.5 * (e.lo + e.hi))),
         }
     }
 }

@@ -60,6 +60,7 @@ pub fn face_votes(
     let v = vertex_count(file);
     let mut votes = 0.0;
     let mut q = first;
+    // A while: the next polygon is the one that the chain names.
     while q < p {
         votes += polygon_vote(file, planes, areas, v, q, frame);
         q = chain[q] as usize;

@@ -45,12 +45,10 @@ fn some_between(cells: &[f64], a: Direction, lo: usize, hi: usize) -> bool
     requires fact_3 { hi ≤ length cells.now }
     ensures { SomeBetween result cells.now a lo hi }
 {
-    let mut i = lo;
-    while i < hi {
+    for i in lo..hi {
         if follows(a, unpack(cells[i])) {
             return true;
         }
-        i += 1;
     }
     false
 }
@@ -108,6 +106,7 @@ fn some_follows(cells: &[f64], n: usize, k: usize) -> bool
 {
     let a = unpack(cells[k]);
     let mut w: usize = 8;
+    // A while: w doubles.
     while w < n / 4 {
         if some_near(cells, n, a, k, w) {
             return true;
@@ -125,12 +124,10 @@ pub fn goes_round(cells: &[f64], n: usize) -> bool
     if n == 0 {
         return false;
     }
-    let mut k: usize = 0;
-    while k < n {
+    for k in 0..n {
         if !some_follows(cells, n, k) {
             return false;
         }
-        k += 1;
     }
     true
 }

@@ -36,8 +36,8 @@ use Rattle.solid_pairs.specs.Pairs.{lower, higher}
 use Rattle.solid_pairs.specs.Work.{PairIs, low_rank, high_rank, item_key, PairsSorted}
 use Rattle.solid_pairs.proofs.PairLaws.{pairs_sorted}
 use Rattle.num_float.proofs.Tests.{and_left}
-use Rattle.rule_corners.specs.declared.segment.Found.{Found}
-use Rattle.rule_corners.specs.declared.segment.Found.TheVariants.{Corner, Nothing}
+use Rattle.std.proofs.Common.{Option, Some, None}
+use Rattle.rule_corners.specs.declared.segment.Between.{Between}
 use Rattle.rule_corners.specs.Corners.{is_corner, corner_sides, corner_count, corner_side, near_face, far_face}
 use Rattle.rule_corners.specs.Work.{corner_keys, corner_order, CornersPut, FoundIs, segment_key, CornersTo, CornerPut, AllPut}
 
@@ -75,7 +75,7 @@ corners_none t at words reals = record { count = refl; sides = λ k h. absurd (o
 
 module _ (t : Part) (at : Regions) (s m : ℕ) (words : List ℕ) (reals : List Float) where
   -- no corner
-  pub put_none : FoundIs t s Nothing → CornerPut t at s m words words reals reals m
+  pub put_none : FoundIs t s None → CornerPut t at s m words words reals reals m
   unfolding FoundIs
   put_none h =
       record {
@@ -91,7 +91,7 @@ module _ (t : Part) (at : Regions) (s m : ℕ) (words : List ℕ) (reals : List 
       }
 
   -- one
-  module _ (near far : ℕ) (r : FacePair) (h : FoundIs t s (Corner near far)) (pair : PairIs t near far r) (laid : Laid at) (words_room : at.words ≤ length words)
+  module _ (b : Between) (r : FacePair) (h : FoundIs t s (Some b)) (pair : PairIs t b.near b.far r) (laid : Laid at) (words_room : at.words ≤ length words)
       (reals_room : at.reals ≤ length reals) (low : s < at.vertices) (before : m ≤ s) where
     abbrev words' : List ℕ
     words' = set words (at.items + m) s
@@ -213,16 +213,16 @@ module _ (s : List ℕ) (at : Regions) (words : List ℕ) (reals : List Float) (
       (face_below s readable (corner_side t k) low, beyond_below s readable (corner_side t k) low (corner_edge t (corner_side t k) c.1))
 
 -- ---- the faces of a corner that is found
-pub found_is : (t : Part) (s near far : ℕ) (r : Found) → FoundIs t s r → r ≡ Corner near far → FoundIs t s (Corner near far)
-found_is t s near far r h e = subst (FoundIs t s) e h
+pub found_is : (t : Part) (s : ℕ) (b : Between) (r : Option Between) → FoundIs t s r → r ≡ Some b → FoundIs t s (Some b)
+found_is t s b r h e = subst (FoundIs t s) e h
 
-pub found_none : (t : Part) (s : ℕ) (r : Found) → FoundIs t s r → r ≡ Nothing → FoundIs t s Nothing
+pub found_none : (t : Part) (s : ℕ) (r : Option Between) → FoundIs t s r → r ≡ None → FoundIs t s None
 found_none t s r h e = subst (FoundIs t s) e h
 
-pub found_below : (s : List ℕ) (at : Regions) (words : List ℕ) (reals : List Float) → Standing s at words reals → (n i near far : ℕ) → n ≡ faces_of (part_of s) →
-    i < at.vertices → FoundIs (part_of s) i (Corner near far) → (near < n) × (far < n)
+pub found_below : (s : List ℕ) (at : Regions) (words : List ℕ) (reals : List Float) → Standing s at words reals → (n i : ℕ) (b : Between) → n ≡ faces_of (part_of s) →
+    i < at.vertices → FoundIs (part_of s) i (Some b) → (b.near < n) × (b.far < n)
 unfolding FoundIs
-found_below s at words reals h n i near far count low found =
+found_below s at words reals h n i b count low found =
     let readable = checked_readable s h.placed.checked in
     let below : i < vertex_count_of s = omega (arith, low, h.placed.vertices) in (
       omega (arith, count, found.1, face_below s readable i below),

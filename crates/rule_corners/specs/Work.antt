@@ -1,5 +1,5 @@
 -- What the functions of this crate leave on the way. A reader may pass over it.
-use Rattle.std.specs.Prelude.{◌≡◌, true, false, List, ℕ, ◌+◌, ◌<◌, ◌*◌, ◌≤◌, get_or, length, Float}
+use Rattle.std.specs.Prelude.{◌≡◌, true, false, List, ℕ, ◌+◌, ◌<◌, ◌*◌, ◌≤◌, get_or, length, Option, Some, None, Float}
 use Rattle.std.specs.Float.{nan}
 use Rattle.list_laws.specs.Region.{part, Outside}
 use Rattle.list_groups.specs.Groups.{passing}
@@ -20,8 +20,7 @@ use Rattle.fault_text.specs.Good.{Good}
 use Rattle.rule_corners.specs.declared.corner.Counts.{Counts}
 use Rattle.rule_corners.specs.declared.corner.NextCorner.{NextCorner}
 use Rattle.rule_corners.specs.declared.segment.Sides.{Sides}
-use Rattle.rule_corners.specs.declared.segment.Found.{Found}
-use Rattle.rule_corners.specs.declared.segment.Found.TheVariants.{Corner, Nothing}
+use Rattle.rule_corners.specs.declared.segment.Between.{Between}
 use Rattle.rule_corners.specs.declared.corner.Two.{Two}
 use Rattle.rule_corners.specs.declared.sharp.Group.{Group}
 use Rattle.rule_corners.specs.Corners.{corner_count, corner_side, near_face, far_face, polygon_beyond, is_corner, corner_of_word, lower_normal, higher_normal}
@@ -79,9 +78,9 @@ pub record SidesOf (t : Part) (s : ℕ) (r : Sides) : Type 0 where
   pub beyond_below : r.beyond < t.polygons
 
 -- a corner between its two faces, or none
-unfoldable pub FoundIs : Part → ℕ → Found → Type 0
-FoundIs t s (Corner near far) = (is_corner t s ≡ true) × (near ≡ face_of_side t s) × (far ≡ face_beyond t s)
-FoundIs t s Nothing = is_corner t s ≡ false
+unfoldable pub FoundIs : Part → ℕ → Option Between → Type 0
+FoundIs t s (Some b) = (is_corner t s ≡ true) × (b.near ≡ face_of_side t s) × (b.far ≡ face_beyond t s)
+FoundIs t s None = is_corner t s ≡ false
 
 -- ---- the search
 -- the key of a segment's pair of faces

@@ -10,7 +10,7 @@ ghost use Rattle.solid_ranks.specs.Kept.{Ranked};
 ghost use Rattle.rule_corners.specs.Corners.{corner_count, length_from_of, corner_of_word};
 ghost use Rattle.rule_corners.specs.Work.{Counted, corner_order, CornersOrdered, CornersPut, NextCornerIs, Normals, CornerPut, AllPut, SideAt};
 
-use crate::segment::{Found, find, mid_of, segment_length, sides_of};
+use crate::segment::{find, mid_of, segment_length, sides_of};
 use list_cells::cell;
 use list_groups::{group_end, sort_items};
 use math::Vec3;
@@ -46,18 +46,13 @@ fn put_corner(file: &[u8], words: &mut [u32], reals: &mut [f64], at: Regions, tu
 {
     let s = turn.side;
     let m = turn.before;
-    let found = find(file, words, reals, at, s);
-    match found {
-        Found::Corner { near, far } => {
-            let pair = pair_of(file, words, at, turn.faces, near, far);
-            let items = at.items;
-            let keys = at.directions;
-            words[items + m] = s as u32;
-            reals[keys + m] = pair.key;
-            m + 1
-        }
-        Found::Nothing => m,
-    }
+    let Some(between) = find(file, words, reals, at, s) else {
+        return m;
+    };
+    let pair = pair_of(file, words, at, turn.faces, between.near, between.far);
+    words[at.items + m] = s as u32;
+    reals[at.directions + m] = pair.key;
+    m + 1
 }
 
 // All corners, in the order of the segments. How many there are.
@@ -68,17 +63,14 @@ fn put_corners(file: &[u8], words: &mut [u32], reals: &mut [f64], at: Regions, n
     requires fact_4 { at.segments ≡ true }
     ensures { AllPut file.now at words.old words.new reals.old reals.new result }
 {
-    let vertices = at.vertices;
-    let mut m: usize = 0;
-    let mut s: usize = 0;
-    while s < vertices {
+    let mut m = 0;
+    for s in 0..at.vertices {
         let turn = Turn {
             faces: n,
             side: s,
             before: m,
         };
         m = put_corner(file, words, reals, at, turn);
-        s += 1;
     }
     m
 }
@@ -153,7 +145,7 @@ pub fn next_corner(
     NextCorner {
         first: pair.first,
         second: pair.second,
-        end: end,
+        end,
     }
 }
 
@@ -165,11 +157,9 @@ fn total_length(file: &[u8], words: &[u32], reals: &[f64], at: Regions, i: usize
     ensures { result ≡ length_from_of (part_of file.now) zero (part i e (corner_order at words.now)) }
 {
     let mut x = 0.0;
-    let mut j = i;
-    while j < e {
+    for j in i..e {
         let s = side_at(file, words, reals, at, j);
-        x = x + segment_length(file, words, reals, at, s);
-        j += 1;
+        x += segment_length(file, words, reals, at, s);
     }
     x
 }
@@ -244,12 +234,10 @@ pub fn corner_of(
         side_at(file, words, reals, at, e - 1),
     );
     let two = normals_of(file, words, reals, at, side_at(file, words, reals, at, i));
-    let low = two.low;
-    let high = two.high;
     Corner {
-        length: length,
-        mid: mid,
-        low: low,
-        high: high,
+        length,
+        mid,
+        low: two.low,
+        high: two.high,
     }
 }

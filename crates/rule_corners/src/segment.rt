@@ -23,13 +23,11 @@ pub struct Sides {
     pub beyond: usize,
 }
 
+#[tactic(auto, unfolding(crate::specs::Corners::is_plane))]
 fn is_plane(surface: SurfaceKind) -> bool
     ensures { result ≡ is_plane surface }
 {
-    match surface {
-        SurfaceKind::Plane => true,
-        _ => false,
-    }
+    matches!(surface, SurfaceKind::Plane)
 }
 
 // Whether polygon p of a file with v vertices lies on a plane, by its own surface.
@@ -141,15 +139,15 @@ fn is_inside(file: &[u8], words: &[u32], reals: &[f64], at: Regions, s: usize) -
     )
 }
 
-// What a segment is: no corner, or one between two faces.
+// The two faces of a corner: that of a segment's first side, and that of its second.
 #[derive(Clone, Copy)]
-pub enum Found {
-    Corner { near: usize, far: usize },
-    Nothing,
+pub struct Between {
+    pub near: usize,
+    pub far: usize,
 }
 
-// Segment s.
-pub fn find(file: &[u8], words: &[u32], reals: &[f64], at: Regions, s: usize) -> Found
+// Those of segment s, where it is a corner.
+pub fn find(file: &[u8], words: &[u32], reals: &[f64], at: Regions, s: usize) -> Option<Between>
     requires fact_1 { Standing file.now at words.now reals.now }
     requires fact_2 { s < at.vertices }
     requires fact_3 { at.segments ≡ true }
@@ -159,15 +157,12 @@ pub fn find(file: &[u8], words: &[u32], reals: &[f64], at: Regions, s: usize) ->
     let items = at.items;
     let faces = at.faces;
     let end = at.readings;
-    let e = edge_at(file, &words[sides..items], &words[faces..end], s);
-    if !e.is_edge {
-        return Found::Nothing;
-    }
+    let e = edge_at(file, &words[sides..items], &words[faces..end], s)?;
     if !is_inside(file, words, reals, at, s) {
-        return Found::Nothing;
+        return None;
     }
-    Found::Corner {
+    Some(Between {
         near: e.near,
         far: e.beyond,
-    }
+    })
 }

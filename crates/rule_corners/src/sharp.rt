@@ -103,11 +103,12 @@ pub fn put_sharp_corners(
     let counts = turn.counts;
     let m = counts.corners;
     let mut k = turn.before;
-    let mut i: usize = 0;
+    let mut i = 0;
+    // A while: the next start is where the corners of two faces end.
     while i < m {
         let next = next_corner(file, words, reals, at, counts, i);
         let group = Group {
-            at: at,
+            at,
             first: next.first,
             second: next.second,
             from: i,

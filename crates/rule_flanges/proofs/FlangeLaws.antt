@@ -23,7 +23,8 @@ use Rattle.round_all.specs.declared.round.Round.{Round}
 use Rattle.round_all.specs.Round.{round_of}
 use Rattle.measure_sizes.specs.Reading.{ReadingBounds}
 use Rattle.sheet_bends.specs.Bends.{outside_of, is_bend}
-use Rattle.sheet_bends.specs.Kept.{bend_cell}
+use Rattle.std.specs.Prelude.{Some, None}
+use Rattle.sheet_bends.specs.Kept.{bend_of}
 use Rattle.fault_row.specs.declared.flaw.Flaw.{Flaw}
 use Rattle.fault_row.specs.declared.flaw.Flaw.TheVariants.{ShortFlange}
 use Rattle.fault_row.specs.Row.{RowPut}
@@ -34,7 +35,7 @@ use Rattle.fault_text.specs.Good.{Good}
 use Rattle.rule_flanges.specs.declared.legs.Leg.{Leg}
 use Rattle.rule_flanges.specs.Flanges.{legs_of, taken_from, flanges_of, reach_to, reach_of, min_flange, flange_flaw, flange_flaws, bend_flanges, short_flanges}
 use Rattle.rule_flanges.specs.Work.{leg_at, legs_in, LegThere, LegsThere, LegsTaken, FlangePut}
-use Rattle.sheet_bends.proofs.BendLaws.{bend_none, bend_is}
+use Rattle.sheet_bends.proofs.BendLaws.{no_bend, some_bend}
 use Rattle.rule_flanges.proofs.LegLaws.{legs_none, legs_more}
 use Rattle.rule_flanges.proofs.SizeLaws.{reach_nonneg, reach_accepted, least_accepted}
 
@@ -115,19 +116,19 @@ module _ (t : Part) (thick : Float) where
   bends_suc : (f : ℕ) → joined (bend_flanges t thick) (f + 1) ≡ joined (bend_flanges t thick) f ++ bend_flanges t thick f
   bends_suc f = ap (joined (bend_flanges t thick)) (add-one f) ∙ joined_suc (bend_flanges t thick) f
 
-  no_bend : (f : ℕ) → is_bend t thick f ≡ false → bend_flanges t thick f ≡ []
+  not_bent : (f : ℕ) → is_bend t thick f ≡ false → bend_flanges t thick f ≡ []
   unfolding bend_flanges
-  no_bend f e = rw e
+  not_bent f e = rw e
 
   a_bend : (f : ℕ) → is_bend t thick f ≡ true → bend_flanges t thick f ≡ flange_flaws t thick f (flanges_of t thick f)
   unfolding bend_flanges
   a_bend f e = rw e
 
   -- a face that is the inside of no bend
-  pub bends_pass : (f x : ℕ) → x ≡ bend_cell t thick f → x ≡ 0 → {from k : ℕ} {c c' : List ℕ} {m m' : List Float} → BendsPut t thick f from c c' m m' k →
+  pub bends_pass : (f : ℕ) → None ≡ bend_of t thick f → {from k : ℕ} {c c' : List ℕ} {m m' : List Float} → BendsPut t thick f from c c' m m' k →
       BendsPut t thick (f + 1) from c c' m m' k
-  bends_pass f x e z p =
-      let none = no_bend f (bend_none t thick f (sym e ∙ z)) in
+  bends_pass f e p =
+      let none = not_bent f (no_bend t thick f e) in
       let all = joined (bend_flanges t thick) f in
       flaws_same (sym (append-nil all) ∙ ap (λ (l : List Flaw). all ++ l) (sym none) ∙ sym (bends_suc f)) p
 
@@ -136,19 +137,13 @@ module _ (t : Part) (thick : Float) where
   unfolding flanges_of
   taken_flanges f most r legs legs' p = p.taken ∙ ap (λ (l : List Leg). taken_from t l (legs_of t thick f)) (legs_none legs)
 
-  pub bends_next : (f x : ℕ) → x ≡ bend_cell t thick f → (x ≡ 0 → ⊥) → (most n : ℕ) (legs legs' : List ℕ) → LegsTaken t (legs_of t thick f) most 0 legs legs' n →
+  pub bends_next : (f g : ℕ) → Some g ≡ bend_of t thick f → (most n : ℕ) (legs legs' : List ℕ) → LegsTaken t (legs_of t thick f) most 0 legs legs' n →
       {from k r : ℕ} {c c' c'' : List ℕ} {m m' m'' : List Float} → BendsPut t thick f from c c' m m' k → LegsPut t thick f legs' n k c' c'' m' m'' r →
       BendsPut t thick (f + 1) from c c'' m m'' r
-  bends_next f x e some most n legs legs' p before q =
-      let is = (bend_is t thick f x e some).0 in
+  bends_next f g e most n legs legs' p before q =
+      let is = (some_bend t thick f g e).0 in
       let last = flaws_same (ap (flange_flaws t thick f) (taken_flanges f most n legs legs' p) ∙ sym (a_bend f is)) q in
       flaws_same (sym (bends_suc f)) (flaws_then before last)
-
-  -- in the words of `flanges`
-  pub bend_there : (f x : ℕ) → x ≡ bend_cell t thick f → (x ≡ 0 → ⊥) → (is_bend t thick f ≡ true) × (x - 1 ≡ outside_of t thick f)
-  bend_there f x e some =
-      let is = bend_is t thick f x e some in
-      (is.0, omega (arith, is.1))
 
   pub bends_all : (n f : ℕ) → n ≡ faces_of t → f ≤ n → n ≤ f → {from k : ℕ} {c c' : List ℕ} {m m' : List Float} → BendsPut t thick f from c c' m m' k →
       FlawsPut (Good t) from (short_flanges t thick) c c' m m' k

@@ -87,14 +87,11 @@ fn put_legs(
     ensures fact_1 { FlawsPut (Good (part_of file.now)) turn.from (flange_flaws (part_of file.now) sheet.thickness turn.bend (legs_in legs.now turn.legs)) cells.old cells.new numbers.old numbers.new result }
     ensures fact_2 { result ≤ turn.from + turn.legs }
 {
-    let n = turn.legs;
     let mut k = turn.from;
-    let mut i: usize = 0;
-    while i < n {
+    for i in 0..turn.legs {
         let leg = leg_at(legs, i);
         let reach = reach_of(file, words, reals, sheet, leg);
         k = put_flange(cells, numbers, turn.bend, leg, reach, sheet.thickness, k);
-        i += 1;
     }
     k
 }
@@ -115,19 +112,14 @@ pub fn put_short_flanges(
     ensures fact_1 { FlawsPut (Good (part_of file.now)) from (short_flanges (part_of file.now) sheet.thickness) cells.old cells.new numbers.old numbers.new result }
     ensures fact_2 { result ≤ from + 2097152 }
 {
-    let n = sheet.edges.faces;
     // Three cells for each neighbour of two faces.
     let mut legs = [0u32; 6144];
     let mut k = from;
-    let mut f: usize = 0;
-    'bends: while f < n {
-        let face = f;
-        f += 1;
-        let bend = bend_at(file, words, reals, sheet, face);
-        if bend == 0 {
-            continue 'bends;
-        }
-        let count = flanges(file, words, reals, &mut legs, sheet, face, bend - 1);
+    for face in 0..sheet.edges.faces {
+        let Some(outside) = bend_at(file, words, reals, sheet, face) else {
+            continue;
+        };
+        let count = flanges(file, words, reals, &mut legs, sheet, face, outside);
         let turn = Turn {
             bend: face,
             legs: count,

@@ -74,14 +74,12 @@ fn is_seen(
     ensures { result ≡ is_seen (part_of file.now) (legs_in legs.now n) g }
 {
     let normal = face_normal(file, words, reals, at, g);
-    let mut i: usize = 0;
-    while i < n {
+    for i in 0..n {
         let leg = leg_at(legs, i);
         let other = face_normal(file, words, reals, at, leg.face);
         if abs(other.dot(normal)) > 0.99 {
             return true;
         }
-        i += 1;
     }
     false
 }
@@ -165,8 +163,9 @@ fn add_legs(
     let end = places.end;
     let mut m = n;
     let mut i = places.start;
+    // A while: the next start is where the edges beside one neighbour end.
     while i < end {
-        let rest = Places { start: i, end: end };
+        let rest = Places { start: i, end };
         let group = next_group(file, words, reals, at, h, rest);
         m = add_group(file, words, reals, legs, sheet, axis, group, m);
         i = group.end;

@@ -37,10 +37,8 @@ fn run_reach(file: &[u8], first: usize, count: usize, line: Line, x: f64) -> f64
     ensures { result ≡ run_reach line.along line.from (corner_at file.now first) x count }
 {
     let mut reach = x;
-    let mut k: usize = 0;
-    while k < count {
+    for k in 0..count {
         reach = max(reach, line.away(vertex(file, first + k)));
-        k += 1;
     }
     reach
 }
@@ -68,6 +66,7 @@ pub fn face_reach(file: &[u8], chain: &[u32], first: usize, line: Line) -> f64
     let v = vertex_count(file);
     let mut reach = 0.0;
     let mut q = first;
+    // A while: each polygon of a face leads to its next.
     while q < p {
         reach = polygon_reach(file, v, q, line, reach);
         q = chain[q] as usize;

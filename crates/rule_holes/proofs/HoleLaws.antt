@@ -1,5 +1,6 @@
 -- The rules on one hole, and the loop over the faces.
 use mathlib.Core.Path.{◌≡◌, refl, sym, ap, ap₂, ◌∙◌, subst}
+use Rattle.std.proofs.Common.{Option, Some, None}
 use mathlib.Core.Bool.{Bool, true, false, ◌&&◌, cond}
 use mathlib.Core.List.{List, [], ◌∷◌, ◌++◌, append-nil}
 use Prim.Native.Nat.{ℕ, ◌+◌, ◌*◌, ◌^◌, ◌≤◌, ◌<◌}
@@ -41,7 +42,7 @@ use Rattle.fault_row.specs.Flaws.{FlawsPut}
 use Rattle.fault_row.proofs.RowLaws.{row_put_same}
 use Rattle.fault_row.proofs.FlawLaws.{flaws_none, flaws_one, flaws_then, flaws_same}
 use Rattle.fault_text.specs.Good.{Good}
-use Rattle.rule_holes.specs.declared.nearest.Nearest.{Nearest}
+use Rattle.rule_holes.specs.declared.nearest.Gap.{Gap}
 use Rattle.rule_holes.specs.declared.holes.Limits.{Limits}
 use Rattle.rule_holes.specs.Nearest.{nearest_of}
 use Rattle.rule_holes.specs.Holes.{min_hole_of, small_hole, need_of, too_close, gap_flaw, close_flaw, hole_flaws, sheet_holes}
@@ -82,7 +83,7 @@ unfolding too_close Good
 close_good t true f g x need lf lg ax an = (lf, lg, ax, an)
 close_good t false f g x need lf lg ax an = (lf, lg, ax, an)
 
-module _ (near : Bool) (need : Float) (h : ℕ) (n : Nearest) where
+module _ (near : Bool) (need : Float) (h : ℕ) (n : Gap) where
   abbrev gap : Float
   gap = max_of n.gap zero
 
@@ -125,37 +126,36 @@ module _ (s : List ℕ) (sheet : Sheet) (words : List ℕ) (reals : List Float) 
   small_put : {from k : ℕ} {c c' : List ℕ} {n n' : List Float} → SmallPut hole limits.hole from c c' n n' k → Puts from (small_hole t thick f) c c' n n' k
   small_put p = p.put t thick l.hole is b (subst RoundBounds (sym is) (round_bounds s stands.ordered.standing.placed.checked f low round)) low
 
-  module _ (near : Nearest) (en : near ≡ nearest_of t hole) where
+  module _ (near : Option Gap) (en : near ≡ nearest_of t hole) where
     both : small_hole t thick f ++ close_flaw t thick f near ≡ hole_flaws t thick f
     unfolding hole_flaws
     both =
-        ap (λ (x : Nearest). small_hole t thick f ++ close_flaw t thick f x) (en ∙ ap (nearest_of t) is)
+        ap (λ (x : Option Gap). small_hole t thick f ++ close_flaw t thick f x) (en ∙ ap (nearest_of t) is)
         ∙ sym (ap₂ (λ (x y : Bool). cond (x && y) (small_hole t thick f ++ close_flaw t thick f (nearest_of t (round_of t f))) []) round whole)
 
     -- nothing is near
-    pub hole_alone : {from k : ℕ} {c c' : List ℕ} {n n' : List Float} → near.found ≡ false → SmallPut hole limits.hole from c c' n n' k →
+    pub hole_alone : {from k : ℕ} {c c' : List ℕ} {n n' : List Float} → near ≡ None → SmallPut hole limits.hole from c c' n n' k →
         Puts from (hole_flaws t thick f) c c' n n' k
     unfolding close_flaw
     hole_alone e p =
-        let none : close_flaw t thick f near ≡ []
-        = ap (λ (c : Bool). cond c (gap_flaw (is_bend_face t thick near.other) (need_of t thick (is_bend_face t thick near.other)) f near) []) e in
+        let none : close_flaw t thick f near ≡ [] = ap (close_flaw t thick f) e in
         flaws_same (sym (append-nil (small_hole t thick f)) ∙ ap (λ (x : List Flaw). small_hole t thick f ++ x) (sym none) ∙ both) (small_put p)
 
     -- something is
-    module _ (found : near.found ≡ true) (bend : Bool) (eb : bend ≡ is_bend_face t thick near.other) (need : Float) (ed : need ≡ cond bend limits.bend limits.edge)
-        (there : near.other < faces_of t) where
+    module _ (n : Gap) (found : near ≡ Some n) (bend : Bool) (eb : bend ≡ is_bend_face t thick n.other) (need : Float) (ed : need ≡ cond bend limits.bend limits.edge)
+        (there : n.other < faces_of t) where
       need_of_lem : need ≡ need_of t thick bend
       need_of_lem = need_is t thick limits bend need l ed
 
-      close : gap_flaw bend need f near ≡ close_flaw t thick f near
+      close : gap_flaw bend need f n ≡ close_flaw t thick f near
       unfolding close_flaw
       close =
-          ap (λ (x : Float). gap_flaw bend x f near) need_of_lem
-          ∙ ap (λ (c : Bool). gap_flaw c (need_of t thick c) f near) eb
-          ∙ sym (ap (λ (c : Bool). cond c (gap_flaw (is_bend_face t thick near.other) (need_of t thick (is_bend_face t thick near.other)) f near) []) found)
+          ap (λ (x : Float). gap_flaw bend x f n) need_of_lem
+          ∙ ap (λ (c : Bool). gap_flaw c (need_of t thick c) f n) eb
+          ∙ sym (ap (close_flaw t thick f) found)
 
-      pub hole_close : {from k r : ℕ} {c c' c'' : List ℕ} {n n' n'' : List Float} → SmallPut hole limits.hole from c c' n n' k → ClosePut bend need f near k c' c'' n' n'' r →
-          Puts from (hole_flaws t thick f) c c'' n n'' r
+      pub hole_close : {from k r : ℕ} {c c' c'' : List ℕ} {x x' x'' : List Float} → SmallPut hole limits.hole from c c' x x' k → ClosePut bend need f n k c' c'' x' x'' r →
+          Puts from (hole_flaws t thick f) c c'' x x'' r
       hole_close p q =
           let checked = stands.ordered.standing.placed.checked in
           let w : Within need (2 ^ 20) = subst (λ (x : Float). Within x (2 ^ 20)) (sym need_of_lem) (need_within thick b s checked bend) in

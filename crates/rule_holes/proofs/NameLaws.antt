@@ -1,13 +1,13 @@
 -- Words in a text, and the material's name as a part of the file.
-use mathlib.Core.Path.{◌≡◌, refl, sym, ap, ap₂, ◌∙◌}
+use mathlib.Core.Path.{◌≡◌, refl, sym, ap, ◌∙◌}
 use mathlib.Core.Bool.{Bool, true, false, ◌&&◌, ◌||◌, cond}
 use mathlib.Core.List.{List, [], ◌∷◌}
-use Prim.Native.Nat.{ℕ, suc, ◌+◌, ◌-◌, ◌≤◌, ◌<◌}
+use Prim.Native.Nat.{ℕ, suc, ◌+◌, ◌≤◌, ◌<◌}
 use native.Mathlib.Numerals.{add-one}
 use native.Mathlib.Omega.{arith}
-use borrow.Author.Tests.{eq-eqb, ne_eqb}
 use lib.Dec.{eqb}
-use lib.ListN.{length, get_or, drop, length-drop, drop_of_length-le}
+use Rattle.std.specs.Cmp.Lexicographic.{pointwise}
+use lib.ListN.{length, take, drop, drop_of_length-le}
 use lib.Seq.{drop-cons}
 use Rattle.list_laws.specs.Region.{part}
 use Rattle.file_job.specs.declared.Job.{Job}
@@ -22,53 +22,12 @@ use Rattle.rule_holes.specs.Name.{starts_with, contains, is_named}
 use Rattle.rule_holes.specs.Work.{starts_at}
 
 -- ---- whether a text begins with a word
--- it does not where it is shorter
-short : (word text : List ℕ) → length text < length word → starts_with word text ≡ false
+-- as std compares the word with as many bytes of the text
+pub start_is : (word text : List ℕ) → pointwise eqb word (take (length word) text) ≡ starts_with word text
 unfolding starts_with
-short [] text h = absurd (omega (arith, h))
-short (w ∷ ws) [] h = refl
-short (w ∷ ws) (b ∷ text) h = go (eqb w b) (short ws text (omega (arith, h)))
-  where
-    go : (c : Bool) → starts_with ws text ≡ false → (c && starts_with ws text) ≡ false
-    go true e = e
-    go false e = refl
-
-pub start_short : (word text : List ℕ) (at : ℕ) → length text - at < length word → false ≡ starts_at word text at
-unfolding starts_at
-start_short word text at h = sym (short word (drop at text) (simp length-drop (h)))
-
--- the bytes before number i are the same
-unfoldable pub StartTo : List ℕ → List ℕ → ℕ → ℕ → Type 0
-StartTo word text at i = starts_at word text at ≡ starts_with (drop i word) (drop (at + i) text)
-
-pub start_none : (word text : List ℕ) (at : ℕ) → StartTo word text at 0
-unfolding StartTo starts_at
-start_none word text at =
-    let here : at ≡ at + 0 = omega arith in
-    ap (starts_at word text) here
-
-module _ (word text : List ℕ) (at i : ℕ) where
-  -- one byte more
-  byte : i < length word → at + i < length text →
-      starts_with (drop i word) (drop (at + i) text) ≡ (eqb (get_or word i 0) (get_or text (at + i) 0) && starts_with (drop (suc i) word) (drop (suc (at + i)) text))
-  unfolding starts_with
-  byte h k = ap₂ starts_with (drop-cons word i 0 h) (drop-cons text (at + i) 0 k)
-
-  pub start_differs : i < length word → at + i < length text → (get_or text (at + i) 0 ≡ get_or word i 0 → ⊥) → StartTo word text at i → false ≡ starts_at word text at
-  unfolding StartTo starts_at
-  start_differs h k ne e =
-      sym (e ∙ byte h k ∙ ap (λ (b : Bool). b && starts_with (drop (suc i) word) (drop (suc (at + i)) text)) (ne_eqb (get_or word i 0) (get_or text (at + i) 0) (λ q. ne (sym q))))
-
-  pub start_more : i < length word → at + i < length text → get_or text (at + i) 0 ≡ get_or word i 0 → StartTo word text at i → StartTo word text at (i + 1)
-  unfolding StartTo starts_at
-  start_more h k q e =
-      let next : suc (at + i) ≡ at + (i + 1) = omega arith in
-      e ∙ byte h k ∙ ap (λ (b : Bool). b && starts_with (drop (suc i) word) (drop (suc (at + i)) text)) (eq-eqb (get_or word i 0) (get_or text (at + i) 0) (sym q))
-      ∙ ap₂ (λ (a b : ℕ). starts_with (drop a word) (drop b text)) (sym (add-one i)) next
-
-  pub start_end : length word ≤ i → StartTo word text at i → true ≡ starts_at word text at
-  unfolding StartTo starts_with starts_at
-  start_end h e = sym (e ∙ ap (λ (w : List ℕ). starts_with w (drop (at + i) text)) (drop_of_length-le word h))
+start_is [] text = refl
+start_is (w ∷ ws) [] = refl
+start_is (w ∷ ws) (b ∷ text) = ap (λ (c : Bool). eqb w b && c) (start_is ws text)
 
 -- ---- whether it has the word in it
 -- it does not start before place `at`

@@ -1,5 +1,6 @@
 -- What is nearest to a hole: the marks of the flat faces around it, one edge, and a tour of a face's neighbours.
 use mathlib.Core.Path.{◌≡◌, refl, sym, ap, ap₂, ◌∙◌, subst}
+use Rattle.std.proofs.Common.{Option, Some, None}
 use mathlib.Core.Bool.{Bool, true, false, not, ◌&&◌, ◌||◌, cond}
 use mathlib.Core.List.{List, [], ◌∷◌, ◌++◌, append-nil}
 use Prim.Native.Nat.{ℕ, ◌*◌, ◌^◌, ◌≤◌, ◌<◌}
@@ -31,48 +32,45 @@ use Rattle.solid_tours.proofs.PlaceLaws.{readable}
 use Rattle.solid_tours.proofs.TourLaws.{tour_start, tour_more, tour_end, rest_all}
 use Rattle.round_all.specs.declared.round.Round.{Round}
 use Rattle.rule_holes.specs.declared.nearest.Gap.{Gap}
-use Rattle.rule_holes.specs.declared.nearest.Nearest.{Nearest}
-use Rattle.rule_holes.specs.Nearest.{plates_of, is_among, gap_between, is_left_out, gap_to, gaps_beside, gaps_from, gaps_of, nothing, nearer, nearest_from, nearest_of}
+use Rattle.rule_holes.specs.Nearest.{plates_of, is_among, gap_between, is_left_out, gap_to, gaps_beside, gaps_from, gaps_of, nearer, nearest_from, nearest_of}
 use Rattle.rule_holes.specs.Work.{Plates, NearestThere, NoNearer}
-use Rattle.rule_holes.proofs.ChoiceLaws.{chosen_first, chosen_second, or_true, or_false}
+use Rattle.rule_holes.proofs.ChoiceLaws.{chosen_second, or_true, or_false}
 
 -- ---- the nearer of two
-pub nearer_taken : (best : Nearest) (g : Gap) → (not best.found || lt g.gap best.gap) ≡ true → record { found = true; gap = g.gap; other = g.other } ≡ nearer best g
+nearer_left : (n g : Gap) → lt g.gap n.gap ≡ false → Some n ≡ nearer (Some n) g
 unfolding nearer
-nearer_taken best g e = chosen_first (record { found = true; gap = g.gap; other = g.other }) best refl e
-
-pub nearer_left : (best : Nearest) (g : Gap) → (not best.found || lt g.gap best.gap) ≡ false → best ≡ nearer best g
-unfolding nearer
-nearer_left best g e = chosen_second (record { found = true; gap = g.gap; other = g.other }) best refl e
+nearer_left n g e = chosen_second (Some g) (Some n) refl e
 
 -- one list after another
-nearest_then : (best : Nearest) (xs ys : List Gap) → nearest_from best (xs ++ ys) ≡ nearest_from (nearest_from best xs) ys
+nearest_then : (best : Option Gap) (xs ys : List Gap) → nearest_from best (xs ++ ys) ≡ nearest_from (nearest_from best xs) ys
 unfolding nearest_from
 nearest_then best [] ys = refl
 nearest_then best (g ∷ xs) ys = nearest_then (nearer best g) xs ys
 
-nearest_none : (best : Nearest) → nearest_from best [] ≡ best
+nearest_none : (best : Option Gap) → nearest_from best [] ≡ best
 unfolding nearest_from
 nearest_none best = refl
 
-nearest_one : (best : Nearest) (g : Gap) → nearest_from best (g ∷ []) ≡ nearer best g
+nearest_one : (best : Option Gap) (g : Gap) → nearest_from best (g ∷ []) ≡ nearer best g
 unfolding nearest_from
 nearest_one best g = refl
 
 -- it is one of the two
-nearer_there : (t : Part) (best : Nearest) (g : Gap) → NearestThere t best → g.other < faces_of t → NearestThere t (nearer best g)
+one_there : (t : Part) (n g : Gap) (c : Bool) → n.other < faces_of t → g.other < faces_of t → NearestThere t (cond c (Some g) (Some n))
+unfolding NearestThere
+one_there t n g true b l = l
+one_there t n g false b l = b
+
+nearer_there : (t : Part) (best : Option Gap) (g : Gap) → NearestThere t best → g.other < faces_of t → NearestThere t (nearer best g)
 unfolding nearer NearestThere
-nearer_there t best g b l = go (not best.found || lt g.gap best.gap)
-  where
-    go : (c : Bool) → (cond c (record { found = true; gap = g.gap; other = g.other }) best).other < faces_of t
-    go true = l
-    go false = b
+nearer_there t None g b l = l
+nearer_there t (Some n) g b l = one_there t n g (lt g.gap n.gap) b l
 
-pub nothing_there : (t : Part) (f : ℕ) → f < faces_of t → NearestThere t nothing
-unfolding NearestThere nothing
-nothing_there t f l = omega (arith, l)
+pub none_there : (t : Part) → NearestThere t None
+unfolding NearestThere
+none_there t = tt
 
-pub there_below : (t : Part) (n : Nearest) → NearestThere t n → n.other < faces_of t
+pub there_below : (t : Part) (n : Gap) → NearestThere t (Some n) → n.other < faces_of t
 unfolding NearestThere
 there_below t n h = h
 
@@ -130,7 +128,7 @@ pub record PlatesTo (t : Part) (h i e : ℕ) (plates : List ℕ) : Type 0 where
   marked : Marked (faces_of t) out plates
 
 -- a tour of the neighbours of face f that is at place i of those before e: what is nearest after those that it has met
-pub record NearestTo (t : Part) (f : ℕ) (h : ℕ → List ℕ → List Gap) (i e : ℕ) (from best : Nearest) : Type 0 where
+pub record NearestTo (t : Part) (f : ℕ) (h : ℕ → List ℕ → List Gap) (i e : ℕ) (from best : Option Gap) : Type 0 where
   out : List Gap
   tour : TourTo t f h i out
   pub left : RestPlaces t f (record { start = i; end = e })
@@ -177,7 +175,7 @@ module _ (s : List ℕ) (at : Regions) (words : List ℕ) (reals : List Float) (
           long = p.marked.long;
         }
 
-  pub nearest_start : (h : ℕ → List ℕ → List Gap) (r : Places) (from : Nearest) → FacePlaces t at words f r → NearestThere t from → NearestTo t f h r.start r.end from from
+  pub nearest_start : (h : ℕ → List ℕ → List Gap) (r : Places) (from : Option Gap) → FacePlaces t at words f r → NearestThere t from → NearestTo t f h r.start r.end from from
   nearest_start h r from places there =
       record {
         out = [];
@@ -187,8 +185,8 @@ module _ (s : List ℕ) (at : Regions) (words : List ℕ) (reals : List Float) (
         there = there;
       }
 
-  module _ {h : ℕ → List ℕ → List Gap} {i e : ℕ} {from best : Nearest} (p : NearestTo t f h i e from best) where
-    pub nearest_more : (g : Group) (r : Nearest) → NextGroup t at words f (record { start = i; end = e }) g → r ≡ nearest_from best (h g.other (edges_between t f g.other)) →
+  module _ {h : ℕ → List ℕ → List Gap} {i e : ℕ} {from best : Option Gap} (p : NearestTo t f h i e from best) where
+    pub nearest_more : (g : Group) (r : Option Gap) → NextGroup t at words f (record { start = i; end = e }) g → r ≡ nearest_from best (h g.other (edges_between t f g.other)) →
         NearestThere t r → NearestTo t f h g.end e from r
     nearest_more g r next m there =
         let more = h g.other (edges_between t f g.other) in
@@ -196,7 +194,7 @@ module _ (s : List ℕ) (at : Regions) (words : List ℕ) (reals : List Float) (
           out = p.out ++ more;
           tour = tour_more s (readable s at words reals o) f h at words (record { start = i; end = e }) g next p.out p.tour;
           left = next.left;
-          is = m ∙ ap (λ (b : Nearest). nearest_from b more) p.is ∙ sym (nearest_then from p.out more);
+          is = m ∙ ap (λ (b : Option Gap). nearest_from b more) p.is ∙ sym (nearest_then from p.out more);
           there = there;
         }
 
@@ -205,12 +203,12 @@ module _ (s : List ℕ) (at : Regions) (words : List ℕ) (reals : List Float) (
         p.is ∙ ap (nearest_from from) (tour_end s (readable s at words reals o) f h (record { start = i; end = e }) l p.left none p.out p.tour)
 
 -- the same edge, told by the group's own face
-pub group_same : (t : Part) (hole : Round) (best r : Nearest) (f face other : ℕ) → face ≡ f →
+pub group_same : (t : Part) (hole : Round) (best r : Option Gap) (f face other : ℕ) → face ≡ f →
     r ≡ nearest_from best (gap_to t hole face other (edges_between t face other)) → r ≡ nearest_from best (gap_to t hole f other (edges_between t f other))
 group_same t hole best r f face other same e = e ∙ ap (λ (k : ℕ). nearest_from best (gap_to t hole k other (edges_between t k other))) same
 
 -- ---- one edge of a flat face
-module _ (t : Part) (hole : Round) (plates : List ℕ) (marks : Plates t hole.face plates) (face other : ℕ) (low : other < faces_of t) (best : Nearest) where
+module _ (t : Part) (hole : Round) (plates : List ℕ) (marks : Plates t hole.face plates) (face other : ℕ) (low : other < faces_of t) (best : Option Gap) where
   abbrev all : List Gap
   all = gap_to t hole face other (edges_between t face other)
 
@@ -238,7 +236,7 @@ module _ (t : Part) (hole : Round) (plates : List ℕ) (marks : Plates t hole.fa
       out (ap (λ (b : Bool). eqb other hole.face || b) (marked (is_among (plates_of t hole.face) other) (sym (marks.each other low) ∙ e)) ∙ or_true (eqb other hole.face))
 
   -- any other face
-  pub group_nearer : (d : Float) (r : Nearest) → (other ≡ hole.face → ⊥) → (get_or plates other 0 ≡ 1 → ⊥) → d ≡ between_distance t face other hole.centre →
+  pub group_nearer : (d : Float) (r : Option Gap) → (other ≡ hole.face → ⊥) → (get_or plates other 0 ≡ 1 → ⊥) → d ≡ between_distance t face other hole.centre →
       r ≡ nearer best (record { gap = sub binary64 d hole.radius; other = other }) → r ≡ nearest_from best all
   unfolding gap_to gap_between is_left_out
   group_nearer d r own mark e m =
@@ -253,27 +251,27 @@ module _ (t : Part) (hole : Round) (plates : List ℕ) (marks : Plates t hole.fa
   unfolding gap_between
   group_farther g ef eo own mark far =
       let gap = sub binary64 (between_distance t face other hole.centre) hole.radius in
-      let less : lt gap best.gap ≡ false
-      = subst (λ (k : ℕ). lt (sub binary64 (between_distance t face k hole.centre) hole.radius) best.gap ≡ false) eo
-      (subst (λ (k : ℕ). lt (sub binary64 (between_distance t k g.other hole.centre) hole.radius) best.gap ≡ false) ef far.not_less) in
+      let less : lt gap far.nearest.gap ≡ false
+      = subst (λ (k : ℕ). lt (sub binary64 (between_distance t face k hole.centre) hole.radius) far.nearest.gap ≡ false) eo
+      (subst (λ (k : ℕ). lt (sub binary64 (between_distance t k g.other hole.centre) hole.radius) far.nearest.gap ≡ false) ef far.not_less) in
       group_nearer (between_distance t face other hole.centre) best own mark refl
-      (nearer_left best (record { gap = gap; other = other }) (ap₂ (λ (a b : Bool). not a || b) far.found less))
+      (far.found ∙ nearer_left far.nearest (record { gap = gap; other = other }) less
+      ∙ ap (λ (b : Option Gap). nearer b (record { gap = gap; other = other })) (sym far.found))
 
 -- ---- a square that none is below, and the gap of its root
-pub no_nearer : (t : Part) (hole : Round) (group : Group) (best : Nearest) (x y d : Float) → y ≡ least_square t hole.centre x (edges_between t group.face group.other) → d ≡ root x →
-    (((best.found && le plus_zero x) && not (lt y x)) && le best.gap (sub binary64 d hole.radius)) ≡ true → NoNearer t hole group best
+pub no_nearer : (t : Part) (hole : Round) (group : Group) (n : Gap) (x y d : Float) → y ≡ least_square t hole.centre x (edges_between t group.face group.other) → d ≡ root x →
+    ((le plus_zero x && not (lt y x)) && le n.gap (sub binary64 d hole.radius)) ≡ true → NoNearer t hole group (Some n)
 unfolding gap_between
-no_nearer t hole group best x y d ey ed h = go best.found (le plus_zero x) (lt y x) refl refl refl h
+no_nearer t hole group n x y d ey ed h = go (le plus_zero x) (lt y x) refl refl h
   where
-    go : (a b c : Bool) → best.found ≡ a → le plus_zero x ≡ b → lt y x ≡ c → (((a && b) && not c) && le best.gap (sub binary64 d hole.radius)) ≡ true → NoNearer t hole group best
-    go false b c ea eb ec k = absurd (contrary k refl)
-    go true false c ea eb ec k = absurd (contrary k refl)
-    go true true true ea eb ec k = absurd (contrary k refl)
-    go true true false ea eb ec k =
+    go : (b c : Bool) → le plus_zero x ≡ b → lt y x ≡ c → ((b && not c) && le n.gap (sub binary64 d hole.radius)) ≡ true → NoNearer t hole group (Some n)
+    go false c eb ec k = absurd (contrary k refl)
+    go true true eb ec k = absurd (contrary k refl)
+    go true false eb ec k =
         let far : le d (between_distance t group.face group.other hole.centre) ≡ true
         = subst (λ (z : Float). le z (between_distance t group.face group.other hole.centre) ≡ true) (sym ed)
         (between_beyond t group.face group.other hole.centre x eb (subst (λ (z : Float). lt z x ≡ false) ey ec)) in
-        record { found = ea; not_less = beyond best.gap d (between_distance t group.face group.other hole.centre) hole.radius k far }
+        record { nearest = n; found = refl; not_less = beyond n.gap d (between_distance t group.face group.other hole.centre) hole.radius k far }
       where
         beyond : (g d b r : Float) → le g (sub binary64 d r) ≡ true → le d b ≡ true → lt (sub binary64 b r) g ≡ false
         beyond g d b r k far =
@@ -282,7 +280,7 @@ no_nearer t hole group best x y d ey ed h = go best.found (le plus_zero x) (lt y
             contrary w (le_not_lt g (sub binary64 b r) (le_trans g (sub binary64 d r) (sub binary64 b r) k low)))
 
 -- it is a face of the part
-pub nearer_kept : (t : Part) (best : Nearest) (other : ℕ) → other < faces_of t → (d : Float) (r : Nearest) → r ≡ nearer best (record { gap = d; other = other }) →
+pub nearer_kept : (t : Part) (best : Option Gap) (other : ℕ) → other < faces_of t → (d : Float) (r : Option Gap) → r ≡ nearer best (record { gap = d; other = other }) →
     NearestThere t best → NearestThere t r
 nearer_kept t best other low d r m b = subst (NearestThere t) (sym m) (nearer_there t best (record { gap = d; other = other }) b low)
 
@@ -291,8 +289,8 @@ pub mark_bytes : (s : List ℕ) (at : Regions) (words : List ℕ) (reals : List 
 mark_bytes s at words reals o g l = omega (arith, l, checked_faces s o.standing.placed.checked)
 
 -- ---- a neighbour of the hole
-module _ (t : Part) (hole : Round) (g : ℕ) (best : Nearest) where
-  pub neighbour_flat : (b : Bool) (r : Nearest) → b ≡ is_flat_face t g → b ≡ true → r ≡ nearest_from best (gaps_beside t hole g) →
+module _ (t : Part) (hole : Round) (g : ℕ) (best : Option Gap) where
+  pub neighbour_flat : (b : Bool) (r : Option Gap) → b ≡ is_flat_face t g → b ≡ true → r ≡ nearest_from best (gaps_beside t hole g) →
       r ≡ nearest_from best (gaps_from t hole g (edges_between t hole.face g))
   unfolding gaps_from
   neighbour_flat b r e h m = m ∙ sym (ap (λ (c : Bool). nearest_from best (cond c (gaps_beside t hole g) [])) (sym e ∙ h))
@@ -302,10 +300,10 @@ module _ (t : Part) (hole : Round) (g : ℕ) (best : Nearest) where
   neighbour_other b e h = sym (ap (λ (c : Bool). nearest_from best (cond c (gaps_beside t hole g) [])) (sym e ∙ h) ∙ nearest_none best)
 
 -- ---- the ends of the two tours
-pub beside_end : (t : Part) (hole : Round) (f : ℕ) (from best : Nearest) → best ≡ nearest_from from (over_neighbours t f (gap_to t hole f)) → best ≡ nearest_from from (gaps_beside t hole f)
+pub beside_end : (t : Part) (hole : Round) (f : ℕ) (from best : Option Gap) → best ≡ nearest_from from (over_neighbours t f (gap_to t hole f)) → best ≡ nearest_from from (gaps_beside t hole f)
 unfolding gaps_beside
 beside_end t hole f from best e = e
 
-pub nearest_of_end : (t : Part) (hole : Round) (best : Nearest) → best ≡ nearest_from nothing (over_neighbours t hole.face (gaps_from t hole)) → best ≡ nearest_of t hole
+pub nearest_of_end : (t : Part) (hole : Round) (best : Option Gap) → best ≡ nearest_from None (over_neighbours t hole.face (gaps_from t hole)) → best ≡ nearest_of t hole
 unfolding nearest_of gaps_of
 nearest_of_end t hole best e = e

@@ -1,6 +1,6 @@
 -- The rules `Small hole` and `Hole too close` of dfm.rs's `sheet_metal`: "Holes through the sheet: size, and distance to edges, other holes and bends."
 -- Definitions only. `thick` is the sheet's thickness.
-use Rattle.std.specs.Prelude.{Bool, ◌&&◌, ◌||◌, cond, List, [], ◌∷◌, ◌++◌, ℕ, Float}
+use Rattle.std.specs.Prelude.{Bool, ◌&&◌, ◌||◌, cond, List, [], ◌∷◌, ◌++◌, Option, Some, None, ℕ, Float}
 use Rattle.std.specs.Float.{binary64}
 use Rattle.std.specs.Float.Ieee.{add, mul, lt, of_bits}
 use Rattle.num_real.specs.Select.{max_of}
@@ -16,7 +16,7 @@ use Rattle.measure_sizes.specs.Round.{diameter_of}
 use Rattle.sheet_bends.specs.Bends.{is_bend_face, bend_radius}
 use Rattle.fault_row.specs.declared.flaw.Flaw.{Flaw}
 use Rattle.fault_row.specs.declared.flaw.Flaw.TheVariants.{SheetSmallHole, HoleNearBend, HoleNearEdge}
-use Rattle.rule_holes.specs.declared.nearest.Nearest.{Nearest}
+use Rattle.rule_holes.specs.declared.nearest.Gap.{Gap}
 use Rattle.rule_holes.specs.Name.{is_named}
 use Rattle.rule_holes.specs.Nearest.{nearest_of}
 
@@ -47,13 +47,13 @@ unfoldable pub too_close : Bool → ℕ → ℕ → Float → Float → Flaw
 too_close nearBend f g gap need = cond nearBend (HoleNearBend f g gap need) (HoleNearEdge f g gap need)
 
 -- `if gap + 1e-9 < need`, with `gap.max(0.0)` in the message, of the hole of face f and what is nearest to it
-unfoldable pub gap_flaw : Bool → Float → ℕ → Nearest → List Flaw
+unfoldable pub gap_flaw : Bool → Float → ℕ → Gap → List Flaw
 gap_flaw nearBend need f n = cond (lt (add binary64 n.gap e_9) need) (too_close nearBend f n.other (max_of n.gap vector.zero) need ∷ []) []
 
 -- `if let Some((gap, other, near_bend)) = nearest`
-unfoldable pub close_flaw : Part → Float → ℕ → Nearest → List Flaw
-close_flaw t thick f n =
-    cond n.found (gap_flaw (is_bend_face t thick n.other) (need_of t thick (is_bend_face t thick n.other)) f n) []
+unfoldable pub close_flaw : Part → Float → ℕ → Option Gap → List Flaw
+close_flaw t thick f None = []
+close_flaw t thick f (Some n) = gap_flaw (is_bend_face t thick n.other) (need_of t thick (is_bend_face t thick n.other)) f n
 
 -- ---- both, of face f where it is a hole
 unfoldable pub hole_flaws : Part → Float → ℕ → List Flaw

@@ -1,16 +1,14 @@
 -- The edge nearest to a hole of a sheet, as dfm.rs's `sheet_metal` finds it: "The flat faces around the hole, and every other edge of those faces."
 -- Definitions only. Faces are told by their numbers.
-use Rattle.std.specs.Prelude.{Bool, true, false, not, ◌||◌, cond, List, [], ◌∷◌, ℕ, eqb, Float}
+use Rattle.std.specs.Prelude.{Bool, false, ◌||◌, cond, List, [], ◌∷◌, Option, Some, None, ℕ, eqb, Float}
 use Rattle.std.specs.Float.{binary64}
 use Rattle.std.specs.Float.Ieee.{sub, lt}
-use Rattle.math.specs.Vector as vector
 use Rattle.file_part.specs.Part.{Part}
 use Rattle.solid_flat.specs.Flat.{is_flat_face}
 use Rattle.solid_tours.specs.Tours.{over_neighbours}
 use Rattle.solid_edges.specs.Distance.{between_distance}
 use Rattle.round_all.specs.declared.round.Round.{Round}
 use Rattle.rule_holes.specs.declared.nearest.Gap.{Gap}
-use Rattle.rule_holes.specs.declared.nearest.Nearest.{Nearest}
 
 -- ---- the flat faces around the hole
 -- `plates`
@@ -48,15 +46,13 @@ unfoldable pub gaps_of : Part → Round → List Gap
 gaps_of t hole = over_neighbours t hole.face (gaps_from t hole)
 
 -- ---- the nearest: `if nearest.is_none_or(|n| gap < n.0)`, so the first of equal ones
-unfoldable pub nothing : Nearest
-nothing = record { found = false; gap = vector.zero; other = 0 }
+unfoldable pub nearer : Option Gap → Gap → Option Gap
+nearer None g = Some g
+nearer (Some n) g = cond (lt g.gap n.gap) (Some g) (Some n)
 
-unfoldable pub nearer : Nearest → Gap → Nearest
-nearer best g = cond (not best.found || lt g.gap best.gap) (record { found = true; gap = g.gap; other = g.other }) best
-
-unfoldable pub nearest_from : Nearest → List Gap → Nearest
+unfoldable pub nearest_from : Option Gap → List Gap → Option Gap
 nearest_from best [] = best
 nearest_from best (g ∷ gs) = nearest_from (nearer best g) gs
 
-unfoldable pub nearest_of : Part → Round → Nearest
-nearest_of t hole = nearest_from nothing (gaps_of t hole)
+unfoldable pub nearest_of : Part → Round → Option Gap
+nearest_of t hole = nearest_from None (gaps_of t hole)

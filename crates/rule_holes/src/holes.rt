@@ -11,7 +11,7 @@ ghost use Rattle.rule_holes.specs.Holes.{min_hole_of, too_close, hole_flaws, she
 ghost use Rattle.rule_holes.specs.Work.{LimitsOf, SmallPut, ClosePut};
 
 use crate::name::is_named;
-use crate::nearest::{Nearest, nearest_of, put_plates};
+use crate::nearest::{Gap, nearest_of, put_plates};
 use fault_row::flaw::{Flaw, put_flaw};
 use num_real::select::max;
 use round_all::round::{Round, round_at};
@@ -98,7 +98,7 @@ fn put_close(
     numbers: &mut [f64],
     from: usize,
     h: usize,
-    nearest: Nearest,
+    nearest: Gap,
     near_bend: bool,
     need: f64,
 ) -> usize
@@ -157,10 +157,9 @@ fn put_hole(
     let limits = turn.limits;
     let k = put_small_hole(cells, numbers, turn.from, hole, limits.hole);
     put_plates(file, words, reals, plates, sheet.edges, hole.face);
-    let nearest = nearest_of(file, words, reals, &plates[..], sheet.edges, hole);
-    if !nearest.found {
+    let Some(nearest) = nearest_of(file, words, reals, &plates[..], sheet.edges, hole) else {
         return k;
-    }
+    };
     let near_bend = is_bend_face(file, words, reals, sheet, nearest.other);
     put_close(
         cells,
@@ -190,22 +189,18 @@ pub fn put_holes(
     ensures fact_2 { result ≤ from + 2048 }
 {
     let at = sheet.edges.at;
-    let n = sheet.edges.faces;
     let kinds = at.kinds;
     let limits = limits_of(file, words, reals, sheet);
     let mut plates = [0u32; 1024];
     let mut k = from;
-    let mut f: usize = 0;
-    'holes: while f < n {
-        let face = f;
-        f += 1;
+    for face in 0..sheet.edges.faces {
         if words[kinds + face] != 3 {
-            continue 'holes;
+            continue;
         }
         let hole = round_at(file, words, reals, at, face);
         let turn = Turn {
-            sheet: sheet,
-            limits: limits,
+            sheet,
+            limits,
             from: k,
         };
         k = put_hole(file, words, reals, cells, numbers, &mut plates, turn, hole);

@@ -12,18 +12,7 @@ fn starts_with(text: &[u8], at: usize, word: &[u8]) -> bool
     requires { at ≤ length text.now }
     ensures { result ≡ starts_at word.now text.now at }
 {
-    let n = word.len();
-    if text.len() - at < n {
-        return false;
-    }
-    let mut i: usize = 0;
-    while i < n {
-        if text[at + i] != word[i] {
-            return false;
-        }
-        i += 1;
-    }
-    true
+    text[at..].starts_with(word)
 }
 
 // Whether the text has a word in it.
@@ -31,12 +20,10 @@ fn has_word(text: &[u8], word: &[u8]) -> bool
     ensures { result ≡ contains word.now text.now }
 {
     let n = text.len();
-    let mut at: usize = 0;
-    while at < n {
+    for at in 0..n {
         if starts_with(text, at, word) {
             return true;
         }
-        at += 1;
     }
     starts_with(text, n, word)
 }

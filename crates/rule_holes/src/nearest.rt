@@ -10,7 +10,7 @@ ghost use Rattle.solid_tours.specs.Work.Kept as tours;
 ghost use Rattle.rule_holes.specs.Nearest.{nearer, nearest_from, gap_to, gaps_beside, gaps_from, nearest_of};
 ghost use Rattle.rule_holes.specs.Work.{Plates, NearestThere, NoNearer};
 
-use list_cells::fill_words;
+use list_cells::fill;
 use round_all::round::Round;
 use scratch::regions::Regions;
 use solid_flat::is_flat;
@@ -25,27 +25,18 @@ pub struct Gap {
     pub other: usize,
 }
 
-// The nearest so far, where one is found.
-#[derive(Clone, Copy)]
-pub struct Nearest {
-    pub found: bool,
-    pub gap: f64,
-    pub other: usize,
-}
-
-impl Nearest {
-    fn nearer(self, g: Gap) -> Nearest
-        ensures { result ≡ nearer self g }
-    {
-        if !self.found | (g.gap < self.gap) {
-            return Nearest {
-                found: true,
-                gap: g.gap,
-                other: g.other,
-            };
-        }
-        self
+// The nearer of the nearest so far, if any, and one more: the first of equal ones.
+#[tactic(auto, unfolding(crate::specs::Nearest::nearer))]
+fn nearer(best: Option<Gap>, gap: Gap) -> Option<Gap>
+    ensures { result ≡ nearer best gap }
+{
+    let Some(nearest) = best else {
+        return Some(gap);
+    };
+    if gap.gap < nearest.gap {
+        return Some(gap);
     }
+    best
 }
 
 // Marks face g where it is flat.
@@ -57,7 +48,6 @@ fn put_plate(file: &[u8], words: &[u32], reals: &[f64], plates: &mut [u32], at: 
 {
     if is_flat(file, words, reals, at, g) {
         plates[g] = 1;
-        return;
     }
 }
 
@@ -77,13 +67,14 @@ pub fn put_plates(
     ensures fact_1 { Plates (part_of file.now) h plates.new }
     ensures fact_2 { length plates.new ≡ length plates.old }
 {
-    fill_words(plates, 0);
+    fill(plates, 0);
     let at = edges.at;
     let places = face_places(file, words, reals, edges, h);
     let end = places.end;
     let mut i = places.start;
+    // A while: the next start is where the edges beside one neighbour end.
     while i < end {
-        let rest = Places { start: i, end: end };
+        let rest = Places { start: i, end };
         let group = next_group(file, words, reals, at, h, rest);
         put_plate(file, words, reals, plates, at, group.other);
         i = group.end;
@@ -98,21 +89,24 @@ fn is_no_nearer(
     edges: Edges,
     hole: Round,
     group: Group,
-    best: Nearest,
+    best: Option<Gap>,
 ) -> bool
     requires fact_1 { EdgesOrdered file.now edges.at words.now reals.now }
     requires fact_2 { tours.Counted (part_of file.now) edges }
     requires fact_3 { GroupPlaces (part_of file.now) edges.at words.now group }
     ensures { result ≡ true → NoNearer (part_of file.now) hole group best }
 {
+    let Some(nearest) = best else {
+        return false;
+    };
     let radius = hole.radius;
     let centre = hole.centre;
-    let reach = best.gap + radius;
+    let reach = nearest.gap + radius;
     // a little more than the square, whose root may be a little less than what it is the square of
     let square = reach * reach * 1.000000001;
     let least = between_square(file, words, reals, edges, group, centre, square);
     let gap = num_root::sqrt(square) - radius;
-    best.found & (0.0 <= square) & !(least < square) & (best.gap <= gap)
+    (0.0 <= square) & !(least < square) & (nearest.gap <= gap)
 }
 
 // With the edge of a group, under a flat face around the hole.
@@ -124,8 +118,8 @@ fn with_group(
     edges: Edges,
     hole: Round,
     group: Group,
-    best: Nearest,
-) -> Nearest
+    best: Option<Gap>,
+) -> Option<Gap>
     requires edges_ordered_1 { EdgesOrdered file.now edges.at words.now reals.now }
     requires edges_ordered_2 { tours.Counted (part_of file.now) edges }
     requires edges_ordered_3 { GroupPlaces (part_of file.now) edges.at words.now group }
@@ -148,9 +142,9 @@ fn with_group(
     let centre = hole.centre;
     let gap = Gap {
         gap: between_distance(file, words, reals, at, group, centre) - hole.radius,
-        other: other,
+        other,
     };
-    best.nearer(gap)
+    nearer(best, gap)
 }
 
 // With the edges of a flat face around the hole.
@@ -162,8 +156,8 @@ fn with_plate(
     edges: Edges,
     hole: Round,
     plate: usize,
-    best: Nearest,
-) -> Nearest
+    best: Option<Gap>,
+) -> Option<Gap>
     requires edges_ordered_1 { EdgesOrdered file.now edges.at words.now reals.now }
     requires edges_ordered_2 { tours.Counted (part_of file.now) edges }
     requires edges_ordered_3 { plate < faces_of (part_of file.now) }
@@ -177,8 +171,9 @@ fn with_plate(
     let end = places.end;
     let mut nearest = best;
     let mut i = places.start;
+    // A while: the next start is where the edges beside one neighbour end.
     while i < end {
-        let rest = Places { start: i, end: end };
+        let rest = Places { start: i, end };
         let group = next_group(file, words, reals, at, plate, rest);
         nearest = with_group(file, words, reals, plates, edges, hole, group, nearest);
         i = group.end;
@@ -195,8 +190,8 @@ fn with_neighbour(
     edges: Edges,
     hole: Round,
     g: usize,
-    best: Nearest,
-) -> Nearest
+    best: Option<Gap>,
+) -> Option<Gap>
     requires edges_ordered_1 { EdgesOrdered file.now edges.at words.now reals.now }
     requires edges_ordered_2 { tours.Counted (part_of file.now) edges }
     requires edges_ordered_3 { g < faces_of (part_of file.now) }
@@ -220,7 +215,7 @@ pub fn nearest_of(
     plates: &[u32],
     edges: Edges,
     hole: Round,
-) -> Nearest
+) -> Option<Gap>
     requires edges_ordered_1 { EdgesOrdered file.now edges.at words.now reals.now }
     requires edges_ordered_2 { tours.Counted (part_of file.now) edges }
     requires edges_ordered_3 { hole.face < faces_of (part_of file.now) }
@@ -232,14 +227,11 @@ pub fn nearest_of(
     let h = hole.face;
     let places = face_places(file, words, reals, edges, h);
     let end = places.end;
-    let mut nearest = Nearest {
-        found: false,
-        gap: 0.0,
-        other: 0,
-    };
+    let mut nearest = None;
     let mut i = places.start;
+    // A while: the next start is where the edges beside one neighbour end.
     while i < end {
-        let rest = Places { start: i, end: end };
+        let rest = Places { start: i, end };
         let group = next_group(file, words, reals, at, h, rest);
         let g = group.other;
         nearest = with_neighbour(file, words, reals, plates, edges, hole, g, nearest);

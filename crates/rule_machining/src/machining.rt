@@ -57,8 +57,8 @@ fn wall_rule(
     };
     order_walls(file, words, reals, at, counts);
     let given = Given {
-        at: at,
-        counts: counts,
+        at,
+        counts,
         from: 0,
     };
     WallCounts {
@@ -108,7 +108,7 @@ fn corner_rule(
     let n = given.counts.faces;
     let m = order_corners(file, words, reals, at, n);
     let turn = rule_corners::sharp::Turn {
-        at: at,
+        at,
         counts: rule_corners::corner::Counts {
             faces: n,
             corners: m,
@@ -140,14 +140,14 @@ pub fn machining(
         readings: w.readings,
     };
     let given = Given {
-        at: at,
-        counts: counts,
+        at,
+        counts,
         from: w.faults,
     };
     let k = round_rule(file, words, reals, cells, numbers, given);
     let rest = Given {
-        at: at,
-        counts: counts,
+        at,
+        counts,
         from: k,
     };
     corner_rule(file, words, reals, cells, numbers, rest)

@@ -22,6 +22,7 @@ const STANDARD_REACH: f64 = 4.0;
 const MAX_REACH: f64 = 10.0;
 
 // A hole below the smallest common drill.
+// Each process has its own: the tests differ, and the flaws have other fields.
 fn put_small_hole(cells: &mut [u32], numbers: &mut [f64], from: usize, round: Round) -> usize
     requires fact_1 { from < 4294967296 }
     requires fact_2 { round.face < 4294967296 }
@@ -81,6 +82,7 @@ fn put_deep_corner(cells: &mut [u32], numbers: &mut [f64], from: usize, round: R
     from
 }
 
+// Beside put_inside: one function for both would take two closures with contracts over lent cells, longer than the two.
 fn put_hole(cells: &mut [u32], numbers: &mut [f64], from: usize, round: Round) -> usize
     requires fact_1 { from + 1 < 4294967296 }
     requires fact_2 { round.face < 4294967296 }
@@ -130,15 +132,11 @@ pub fn put_round_faults(
     ensures fact_2 { result ≤ given.from + 2 * faces_of (part_of file.now) }
 {
     let at = given.at;
-    let n = given.counts.faces;
     let kinds = at.kinds;
     let mut k = given.from;
-    let mut f: usize = 0;
-    'faces: while f < n {
-        let face = f;
-        f += 1;
+    for face in 0..given.counts.faces {
         if words[kinds + face] == 0 {
-            continue 'faces;
+            continue;
         }
         k = put_round(cells, numbers, k, round_at(file, words, reals, at, face));
     }

@@ -74,7 +74,8 @@ pub fn put_thin_walls(
     let m = counts.readings;
     let wall = min_wall(file);
     let mut k = given.from;
-    let mut i: usize = 0;
+    let mut i = 0;
+    // A while: the next start is where the readings of two faces end.
     while i < m {
         let faces = next_wall(file, words, reals, at, counts, i);
         let end = faces.end;

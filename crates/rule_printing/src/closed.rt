@@ -32,12 +32,9 @@ fn open_keys(file: &[u8], words: &[u32], reals: &[f64], at: Regions) -> usize
     ensures fact_2 { result ≤ 16384 }
 {
     let sides = at.sides;
-    let vertices = at.vertices;
-    let mut k: usize = 0;
-    let mut s: usize = 0;
-    while s < vertices {
+    let mut k = 0;
+    for s in 0..at.vertices {
         k = counted(cell(words, sides + (s * 3 + 2)), s, k);
-        s += 1;
     }
     k
 }

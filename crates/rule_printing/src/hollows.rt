@@ -13,23 +13,18 @@ use print_walls::fault_text::job::job_of;
 use scratch::regions::Regions;
 
 // Whether hollows trap what the part is made from.
+#[tactic(auto, unfolding(crate::specs::Rules::traps_hollows_of))]
 pub fn traps_hollows(process: Process) -> bool
     ensures { result ≡ traps_hollows_of process }
 {
-    match process {
-        Process::Sla => true,
-        Process::Sls => true,
-        _ => false,
-    }
+    matches!(process, Process::Sla | Process::Sls)
 }
 
+#[tactic(auto, unfolding(crate::specs::Rules::is_sls))]
 fn is_sls(process: Process) -> bool
     ensures { result ≡ is_sls process }
 {
-    match process {
-        Process::Sls => true,
-        _ => false,
-    }
+    matches!(process, Process::Sls)
 }
 
 // The row of a hollow, after `from` others: that of the body whose lowest polygon is b, where its volume is negative. How many there are then.
@@ -73,15 +68,11 @@ pub fn put_hollows(
     ensures fact_2 { result ≤ from + 4096 }
 {
     let volumes = at.volumes;
-    let polygons = at.polygons;
     let job = job_of(file);
-    let process = job.process;
-    let sls = is_sls(process);
+    let sls = is_sls(job.process);
     let mut k = from;
-    let mut b: usize = 0;
-    while b < polygons {
+    for b in 0..at.polygons {
         k = put_hollow(cells, numbers, k, b, reals[volumes + b], sls);
-        b += 1;
     }
     k
 }

@@ -18,7 +18,7 @@ pub fn lean_of(file: &[u8], up: Vec3, heights: Extent, tenths: u32) -> Lean
 {
     let tol = 1e-6 * max(heights.hi - heights.lo, 1.0);
     Lean {
-        up: up,
+        up,
         plate: heights.lo + tol,
         steep: sine(tenths) + 1e-9,
     }

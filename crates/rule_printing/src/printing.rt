@@ -54,7 +54,7 @@ fn upright_of(file: &[u8]) -> Upright
     let along = print.up;
     let up = along.normalized();
     Upright {
-        up: up,
+        up,
         heights: heights(file, up),
     }
 }
@@ -83,11 +83,7 @@ fn wall_rule(
         readings: m,
     };
     order_walls(file, words, reals, at, counts);
-    let counted = print_walls::Given {
-        at: at,
-        counts: counts,
-        from: from,
-    };
+    let counted = print_walls::Given { at, counts, from };
     put_print_walls(file, words, reals, cells, numbers, counted)
 }
 
@@ -191,19 +187,19 @@ pub fn printing(
     let upright = upright_of(file);
     let heights = upright.heights;
     let first = Given {
-        at: at,
+        at,
         faces: n,
         from: put_not_closed(file, words, reals, cells, numbers, at),
     };
     let walls = wall_rule(file, words, reals, cells, numbers, first);
     let given = Given {
-        at: at,
+        at,
         faces: n,
         from: walls,
     };
     let holes = hole_rule(file, words, reals, cells, numbers, given);
     let rest = Given {
-        at: at,
+        at,
         faces: n,
         from: holes,
     };

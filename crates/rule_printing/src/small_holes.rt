@@ -57,12 +57,9 @@ pub fn put_small_holes(
     let print = job.print;
     let least = print.min_hole;
     let mut k = from;
-    let mut f: usize = 0;
-    'holes: while f < n {
-        let face = f;
-        f += 1;
+    for face in 0..n {
         if words[kinds + face] != 3 {
-            continue 'holes;
+            continue;
         }
         let hole = round_at(file, words, reals, at, face);
         k = put_small_hole(cells, numbers, k, hole, least);

@@ -26,6 +26,7 @@ use Rattle.wall_samples.specs.Stored.{Readings}
 use Rattle.wall_pairs.proofs.KeptLaws.{rounds_kept}
 use Rattle.round_all.specs.Kept.{Rounds}
 use Rattle.measure_sizes.specs.Reading.{ReadingBounds}
+use Rattle.std.specs.Prelude.{Option, None}
 use Rattle.sheet_thickness.specs.declared.Thickness.{Thickness}
 use Rattle.sheet_thickness.specs.Thickness.{kept_readings, thickness_of, thinnest_of, thickest_of, is_uneven}
 use Rattle.sheet_thickness.specs.Kept.{ThicknessIs, Measured, OffFaces}
@@ -57,10 +58,10 @@ use Rattle.rule_sheet.specs.Work.{MaterialPut, ReadyPut, UnevenPut, formed_summa
 bounds_accepted : (x : Float) → ReadingBounds x → accepted x 2 ≡ true
 bounds_accepted x b = accepted_at x 131072 2 b.nonneg b.within (lit< tt) (omega arith)
 
-module _ (t : Part) (found : Thickness) (is : ThicknessIs t found) (some : 1 ≤ found.kept) where
+module _ (t : Part) (found : Thickness) (is : ThicknessIs t found) where
   uneven_is : NotOneThickness found.thinnest found.thickest found.value ≡ uneven_flaw t
   unfolding uneven_flaw
-  uneven_is = rw (is.thinnest some, is.thickest some, is.value some) refl
+  uneven_is = rw (is.thinnest, is.thickest, is.value) refl
 
 uneven_good : (t : Part) → 0 < faces_of t → accepted (thinnest_of t) 2 ≡ true → accepted (thickest_of t) 2 ≡ true → accepted (thickness_of t) 2 ≡ true → Good t (uneven_flaw t)
 unfolding uneven_flaw Good
@@ -69,14 +70,14 @@ uneven_good t faces lo hi mid = (faces, lo, hi, mid)
 pub uneven_put : {found : Thickness} {from r : ℕ} {cells cells' : List ℕ} {numbers numbers' : List Float} →
     RowPut from (row_of (NotOneThickness found.thinnest found.thickest found.value)) cells cells' numbers numbers' r → UnevenPut found from cells cells' numbers numbers' r
 uneven_put {found} {from} {r} {cells} {cells'} {numbers} {numbers'} p =
-    record { few = omega (arith, p.count); put = λ s checked is some faces. one s checked is some faces }
+    record { few = omega (arith, p.count); put = one }
   where
-    one : (s : List ℕ) → Checked s → ThicknessIs (part_of s) found → 1 ≤ found.kept → 0 < faces_of (part_of s) →
+    one : (s : List ℕ) → Checked s → ThicknessIs (part_of s) found → 0 < faces_of (part_of s) →
         FlawsPut (Good (part_of s)) from (uneven_flaw (part_of s) ∷ []) cells cells' numbers numbers' r
-    one s checked is some faces =
+    one s checked is faces =
         let t = part_of s in
-        let b = thickness_bounds s checked (omega (arith, some, is.kept)) in
-        flaws_one (uneven_flaw t) (row_put_same (ap row_of (uneven_is t found is some)) p) (uneven_good t faces (bounds_accepted _ b.1) (bounds_accepted _ b.2) (bounds_accepted _ b.0))
+        let b = thickness_bounds s checked is.kept in
+        flaws_one (uneven_flaw t) (row_put_same (ap row_of (uneven_is t found is)) p) (uneven_good t faces (bounds_accepted _ b.1) (bounds_accepted _ b.2) (bounds_accepted _ b.0))
 
 -- ---- the bends, the flanges and the holes
 pub bent_put : (t : Part) (thick : Float) {from i j k : ℕ} {c0 c1 c2 c3 : List ℕ} {n0 n1 n2 n3 : List Float} →
@@ -106,7 +107,7 @@ module _ (t : Part) where
   sheet_found e u = (unfold formed_flaws in rw (e, u) refl, unfold formed_summary in rw (e, u) refl)
 
 -- ---- a part that can be formed
-module _ (s : List ℕ) (at : Regions) (w0 w1 w2 : List ℕ) (r0 r1 r2 : List Float) (n : ℕ) (ready : Ready) (found : Thickness) (h : Standing s at w0 r0) (faces : n ≡ faces_of (part_of s))
+module _ (s : List ℕ) (at : Regions) (w0 w1 w2 : List ℕ) (r0 r1 r2 : List Float) (n : ℕ) (ready : Ready) (found : Option Thickness) (h : Standing s at w0 r0) (faces : n ≡ faces_of (part_of s))
     (made : ReadyPut s at w0 w1 r0 r1 ready) (measured : Measured (part_of s) at w1 w2 r1 r2 found) where
   abbrev t : Part
   t = part_of s
@@ -135,17 +136,11 @@ module _ (s : List ℕ) (at : Regions) (w0 w1 w2 : List ℕ) (r0 r1 r2 : List Fl
   pub reals_then : Outside nan at.falling at.reals r0 r2
   reals_then = outside_then nan _ _ r0 r1 r2 made.reals_kept (outside_wide nan _ _ _ _ r1 r2 (omega arith) (omega (arith, laid)) measured.reals_kept)
 
-  pub some_kept : (found.kept ≡ 0 → ⊥) → 1 ≤ found.kept
-  some_kept z = go found.kept z
-    where
-      go : (k : ℕ) → (k ≡ 0 → ⊥) → 1 ≤ k
-      go k z = omega (arith, z)
-
   -- ---- no reading is kept
-  pub formed_none : {from : ℕ} {cells : List ℕ} {numbers : List Float} → from ≤ 1 → found.kept ≡ 0 → (x : Summary) → x ≡ no_summary →
+  pub formed_none : {from : ℕ} {cells : List ℕ} {numbers : List Float} → from ≤ 1 → found ≡ None → (x : Summary) → x ≡ no_summary →
       FormedPut s at from w0 w2 r0 r2 cells cells numbers numbers (record { faults = from; summary = x })
   formed_none {from} {cells} {numbers} few none x e =
-      let empty = measured_none t (sym measured.is.kept ∙ none) in
+      let empty = measured_none t (measured.none none) in
       record {
         put = flaws_same (none_found t empty).0 (flaws_none from cells numbers);
         few = omega (arith, few);
@@ -157,32 +152,32 @@ module _ (s : List ℕ) (at : Regions) (w0 w1 w2 : List ℕ) (r0 r1 r2 : List Fl
         reals_kept = reals_then;
       }
 
-  module _ (some : found.kept ≡ 0 → ⊥) where
+  module _ (v : Thickness) (is : ThicknessIs t v) where
     full : is_measured t ≡ true
-    full = measured_some t (omega (arith, some_kept some, measured.is.kept))
+    full = measured_some t is.kept
 
     -- ---- not one thickness
-    module _ (w3 : List ℕ) (uneven : found.uneven ≡ true) (marks : OffFaces t at w3) (w : Outside 0 at.order at.kinds w2 w3) where
+    module _ (w3 : List ℕ) (uneven : v.uneven ≡ true) (marks : OffFaces t at w3) (w : Outside 0 at.order at.kinds w2 w3) where
       ordered_last : EdgesOrdered s at w3 r2
       ordered_last = still_ordered s at w2 w3 r2 r2 w (outside_none nan at.falling at.thickness r2) ordered_then
 
       pub words_uneven : Outside 0 at.items at.words w0 w3
       words_uneven = outside_then 0 _ _ w0 w2 w3 words_then (outside_wide 0 _ _ _ _ w2 w3 (omega (arith, laid)) (omega (arith, laid)) w)
 
-      uneven_flaws : {from k : ℕ} {cells cells' : List ℕ} {numbers numbers' : List Float} → 0 < n → UnevenPut found from cells cells' numbers numbers' k →
+      uneven_flaws : {from k : ℕ} {cells cells' : List ℕ} {numbers numbers' : List Float} → 0 < n → UnevenPut v from cells cells' numbers numbers' k →
           FlawsPut (Good t) from (uneven_flaw t ∷ []) cells cells' numbers numbers' k
-      uneven_flaws there p = p.put s h.placed.checked measured.is (some_kept some) (omega (arith, there, faces))
+      uneven_flaws there p = p.put s h.placed.checked is (omega (arith, there, faces))
 
-      pub cells_uneven : {from k : ℕ} {cells cells' : List ℕ} {numbers numbers' : List Float} → 0 < n → UnevenPut found from cells cells' numbers numbers' k → length cells' ≡ length cells
+      pub cells_uneven : {from k : ℕ} {cells cells' : List ℕ} {numbers numbers' : List Float} → 0 < n → UnevenPut v from cells cells' numbers numbers' k → length cells' ≡ length cells
       cells_uneven there p = (uneven_flaws there p).cells_kept.long
 
-      pub numbers_uneven : {from k : ℕ} {cells cells' : List ℕ} {numbers numbers' : List Float} → 0 < n → UnevenPut found from cells cells' numbers numbers' k → length numbers' ≡ length numbers
+      pub numbers_uneven : {from k : ℕ} {cells cells' : List ℕ} {numbers numbers' : List Float} → 0 < n → UnevenPut v from cells cells' numbers numbers' k → length numbers' ≡ length numbers
       numbers_uneven there p = (uneven_flaws there p).numbers_kept.long
 
-      pub formed_uneven : {from k : ℕ} {cells cells' : List ℕ} {numbers numbers' : List Float} → from ≤ 1 → 0 < n → UnevenPut found from cells cells' numbers numbers' k → (x : Summary) → x ≡ no_summary →
+      pub formed_uneven : {from k : ℕ} {cells cells' : List ℕ} {numbers numbers' : List Float} → from ≤ 1 → 0 < n → UnevenPut v from cells cells' numbers numbers' k → (x : Summary) → x ≡ no_summary →
           FormedPut s at from w0 w3 r0 r2 cells cells' numbers numbers' (record { faults = k; summary = x })
       formed_uneven {from} {k} {cells} {cells'} {numbers} {numbers'} few there p x e =
-          let off : is_uneven t ≡ true = sym (measured.is.uneven (some_kept some)) ∙ uneven in
+          let off : is_uneven t ≡ true = sym is.uneven ∙ uneven in
           record {
             put = flaws_same (uneven_found t full off).0 (uneven_flaws there p);
             few = omega (arith, few, p.few);
@@ -195,23 +190,23 @@ module _ (s : List ℕ) (at : Regions) (w0 w1 w2 : List ℕ) (r0 r1 r2 : List Fl
           }
 
     -- ---- one thickness
-    pub thick_bounds : ReadingBounds found.value
-    thick_bounds = subst ReadingBounds (sym (measured.is.value (some_kept some))) (thickness_bounds s h.placed.checked (omega (arith, some_kept some, measured.is.kept))).0
+    pub thick_bounds : ReadingBounds v.value
+    thick_bounds = subst ReadingBounds (sym is.value) (thickness_bounds s h.placed.checked is.kept).0
 
-    module _ (w3 : List ℕ) (b : ℕ) (even : found.uneven ≡ false) (bends : BendsPut t found.value at w2 w3 b) where
-      pub sheet_there : SheetStands s (record { edges = record { at = at; faces = n; items = ready.items }; thickness = found.value }) w3 r2
-      sheet_there = sheet_stands s (record { edges = record { at = at; faces = n; items = ready.items }; thickness = found.value }) w2 w3 r2 b ordered_then counted rounds_then bends
+    module _ (w3 : List ℕ) (b : ℕ) (even : v.uneven ≡ false) (bends : BendsPut t v.value at w2 w3 b) where
+      pub sheet_there : SheetStands s (record { edges = record { at = at; faces = n; items = ready.items }; thickness = v.value }) w3 r2
+      sheet_there = sheet_stands s (record { edges = record { at = at; faces = n; items = ready.items }; thickness = v.value }) w2 w3 r2 b ordered_then counted rounds_then bends
 
       pub words_sheet : Outside 0 at.items at.words w0 w3
       words_sheet = outside_then 0 _ _ w0 w2 w3 words_then (outside_wide 0 _ _ _ _ w2 w3 (omega (arith, laid)) (omega (arith, laid)) bends.kept)
 
       pub formed_sheet : {from k : ℕ} {cells cells' : List ℕ} {numbers numbers' : List Float} →
-          FlawsPut (Good t) from (bent_flaws t found.value) cells cells' numbers numbers' k → k ≤ 4194304 → (x : Summary) → x ≡ sheet_summary found.value b →
+          FlawsPut (Good t) from (bent_flaws t v.value) cells cells' numbers numbers' k → k ≤ 4194304 → (x : Summary) → x ≡ sheet_summary v.value b →
           FormedPut s at from w0 w3 r0 r2 cells cells' numbers numbers' (record { faults = k; summary = x })
       formed_sheet {from} {k} {cells} {cells'} {numbers} {numbers'} p few x e =
-          let off : is_uneven t ≡ false = sym (measured.is.uneven (some_kept some)) ∙ even in
-          let thick : found.value ≡ thickness_of t = measured.is.value (some_kept some) in
-          let all : sheet_summary found.value b ≡ sheet_summary (thickness_of t) (bend_count t (thickness_of t)) = rw (bends.count, thick) refl in
+          let off : is_uneven t ≡ false = sym is.uneven ∙ even in
+          let thick : v.value ≡ thickness_of t = is.value in
+          let all : sheet_summary v.value b ≡ sheet_summary (thickness_of t) (bend_count t (thickness_of t)) = rw (bends.count, thick) refl in
           record {
             put = flaws_same (ap (bent_flaws t) thick ∙ (sheet_found t full off).0) p;
             few = few;

@@ -162,8 +162,8 @@ module _ (s : List ℕ) (checked : Checked s) (thick : Float) (b : ReadingBounds
 
 -- ---- in the words of the loop
 pub bend_room : (s : List ℕ) (at : Regions) {words : List ℕ} {reals : List Float} → Standing s at words reals → (thick : Float) (f : ℕ) → f < faces_of (part_of s) → {g : ℕ} →
-    (is_bend (part_of s) thick f ≡ true) × (g ≡ suc (outside_of (part_of s) thick f)) → (inner : Round) → inner ≡ round_of (part_of s) f → (from : ℕ) {k : ℕ} → from ≤ 1 → k ≤ from + f →
-    (k < 4294967296) × ((inner.face < 4294967296) × (g - 1 < 4294967296))
+    (is_bend (part_of s) thick f ≡ true) × (g ≡ outside_of (part_of s) thick f) → (inner : Round) → inner ≡ round_of (part_of s) f → (from : ℕ) {k : ℕ} → from ≤ 1 → k ≤ from + f →
+    (k < 4294967296) × ((inner.face < 4294967296) × (g < 4294967296))
 bend_room s at h thick f low bend inner is from few most =
     let face = ap (λ (x : Round). x.face) is ∙ round_face (part_of s) f in
     let small = checked_faces s h.placed.checked in

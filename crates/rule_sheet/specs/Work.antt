@@ -55,7 +55,7 @@ pub record TightPut (inner : Round) (outer : ℕ) (least : Float) (from : ℕ) (
 -- the fault of a part that is not one thickness, in any part of which this is measured
 pub record UnevenPut (found : Thickness) (from : ℕ) (cells cells' : List ℕ) (numbers numbers' : List Float) (r : ℕ) : Type 0 where
   pub few : r ≤ from + 1
-  pub put : (s : List ℕ) → Checked s → ThicknessIs (part_of s) found → 1 ≤ found.kept → 0 < faces_of (part_of s) →
+  pub put : (s : List ℕ) → Checked s → ThicknessIs (part_of s) found → 0 < faces_of (part_of s) →
       FlawsPut (Good (part_of s)) from (uneven_flaw (part_of s) ∷ []) cells cells' numbers numbers' r
 
 -- what is found of a part that can be formed

@@ -6,13 +6,11 @@ ghost use Rattle.rule_sheet.specs.Work.{MaterialPut};
 use fault_row::flaw::{Flaw, put_flaw};
 use file_job::{Job, MaterialClass};
 
+#[tactic(auto, unfolding(crate::specs::Material::is_metal))]
 fn is_metal(class: MaterialClass) -> bool
     ensures { result ≡ is_metal class }
 {
-    match class {
-        MaterialClass::Metal => true,
-        MaterialClass::Plastic => false,
-    }
+    matches!(class, MaterialClass::Metal)
 }
 
 // Whether the material can be bent; where there is none the check goes on too.
@@ -23,8 +21,7 @@ pub fn is_formed(job: Job) -> bool
         return true;
     }
     let material = job.material;
-    let class = material.class;
-    is_metal(class) & material.has_bend_ratio
+    is_metal(material.class) & material.has_bend_ratio
 }
 
 // The smallest inside bend radius over the sheet's thickness.

@@ -86,17 +86,16 @@ fn put_formed(
     let from = given.from;
     let ready = make_ready(file, words, reals, at, n);
     let edges = Edges {
-        at: at,
+        at,
         faces: n,
         items: ready.items,
     };
-    let found = measure(file, words, reals, edges, ready.readings);
-    if found.kept == 0 {
+    let Some(found) = measure(file, words, reals, edges, ready.readings) else {
         return Found {
             faults: from,
             summary: Summary::none(),
         };
-    }
+    };
     if found.uneven {
         let counts = Counts {
             faces: n,
@@ -110,7 +109,7 @@ fn put_formed(
     }
     let bends = put_bends(file, words, reals, at, n, found.value);
     let sheet = Sheet {
-        edges: edges,
+        edges,
         thickness: found.value,
     };
     Found {
@@ -145,7 +144,7 @@ pub fn sheet_metal(
         };
     }
     let given = Given {
-        at: at,
+        at,
         faces: n,
         from: k,
     };

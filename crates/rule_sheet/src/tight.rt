@@ -52,19 +52,14 @@ pub fn put_tight_bends(
     ensures fact_2 { result ≤ from + 1024 }
 {
     let at = sheet.edges.at;
-    let n = sheet.edges.faces;
     let least = ratio_of(job_of(file)) * sheet.thickness;
     let mut k = from;
-    let mut f: usize = 0;
-    'bends: while f < n {
-        let face = f;
-        f += 1;
-        let bend = bend_at(file, words, reals, sheet, face);
-        if bend == 0 {
-            continue 'bends;
-        }
+    for face in 0..sheet.edges.faces {
+        let Some(outside) = bend_at(file, words, reals, sheet, face) else {
+            continue;
+        };
         let inner = round_at(file, words, reals, at, face);
-        k = put_tight_bend(cells, numbers, k, inner, bend - 1, least);
+        k = put_tight_bend(cells, numbers, k, inner, outside, least);
     }
     k
 }

@@ -10,7 +10,7 @@ ghost use Rattle.scratch.specs.Work.{LabelsPut, SidesPut, TotalsPut, VolumesPut}
 
 use crate::regions::Regions;
 use crate::tree::put_tree;
-use list_cells::{fill_reals, wide};
+use list_cells::fill;
 use solid_faces::areas::{add_area, put_areas, put_planes};
 use solid_volumes::volume::volumes;
 
@@ -26,10 +26,8 @@ fn put_chain(file: &[u8], words: &mut [u32], at: Regions)
     let faces = at.faces;
     let polygons = at.polygons;
     let mut next = [polygons as u32; 1024];
-    let mut q = polygons;
-    while q > 0 {
-        q -= 1;
-        let f = wide(words[faces + q]);
+    for q in (0..polygons).rev() {
+        let f = words[faces + q] as usize;
         words[chain + q] = next[f];
         next[f] = q as u32;
     }
@@ -94,13 +92,11 @@ fn put_totals(file: &[u8], words: &[u32], reals: &mut [f64], at: Regions)
     let areas = at.areas;
     let start = at.totals;
     let end = at.volumes;
-    fill_reals(&mut reals[start..end], 0.0);
-    let mut q: usize = 0;
-    while q < polygons {
-        let f = wide(words[faces + q]);
+    fill(&mut reals[start..end], 0.0);
+    for q in 0..polygons {
+        let f = words[faces + q] as usize;
         let area = reals[areas + q];
         add_area(&mut reals[start..end], f, area);
-        q += 1;
     }
 }
 

@@ -1,18 +1,16 @@
 // Whether the body of a part can be put: refusals 1 to 9 by the file, 10 by the cells that are lent.
 ghost use Rattle.std.specs.Prelude.{◌≡◌};
-ghost use Rattle.scratch.specs.Refusal.{body_refusal_of};
+ghost use Rattle.scratch.specs.Refusal.{body_result_of};
 
 use crate::regions::{Regions, Stages};
-use refusal::{ACCEPTED, TOO_LITTLE_SCRATCH};
+use refusal::Refusal;
+use solid_faces::verdict::judge;
 
-// Why the body of a part is not put into this many cells, by the number of the refusal, 1 to 10; 0 where it is put.
-pub fn body_refusal(file: &[u8], words: usize, reals: usize) -> u32
-    ensures { result ≡ body_refusal_of file.now words reals }
+// Why the body of a part is not put into this many cells: a refusal from 1 to 10.
+pub fn body_refusal(file: &[u8], words: usize, reals: usize) -> Result<(), Refusal>
+    ensures { result ≡ body_result_of file.now words reals }
 {
-    let refusal = solid_faces::verdict::judge(file).refusal();
-    if refusal != ACCEPTED {
-        return refusal;
-    }
+    judge(file)?;
     let at = Regions::of(
         file,
         Stages {
@@ -21,7 +19,7 @@ pub fn body_refusal(file: &[u8], words: usize, reals: usize) -> u32
         },
     );
     if (words < at.words) | (reals < at.reals) {
-        return TOO_LITTLE_SCRATCH;
+        return Err(Refusal::TooLittleScratch);
     }
-    ACCEPTED
+    Ok(())
 }

@@ -1,5 +1,5 @@
 -- The kinds of the faces, as the bends read them: kind 1 is convex, and kind 2 concave and no hole. The first face around a concave one.
-use mathlib.Core.Path.{◌≡◌, refl, sym, ◌∙◌, subst}
+use mathlib.Core.Path.{◌≡◌, refl, sym, ap, ◌∙◌, subst}
 use mathlib.Core.Bool.{Bool, true, false, not, ◌&&◌, cond}
 use mathlib.Core.Logic.{◌⊎◌, inl, inr}
 use Prim.Native.Nat.{ℕ, ◌+◌, ◌≤◌, ◌<◌}
@@ -7,6 +7,7 @@ use native.Mathlib.Omega.{arith}
 use lib.Dec.{eqb}
 use lib.Ieee.{Float}
 use borrow.Author.Tests.{eq-eqb, ne_eqb, lt-ltb, le-ltb}
+use Rattle.std.specs.Prelude.{Option, Some, None}
 use Rattle.num_float.proofs.Tests.{and_left, and_false_left, lt_or_ge}
 use Rattle.list_laws.proofs.Count.{lowest_is}
 use Rattle.file_part.specs.Part.{Part}
@@ -15,7 +16,8 @@ use Rattle.round_all.specs.declared.round.Round.{Round}
 use Rattle.round_all.specs.Round.{is_round, is_concave, is_hole, round_of}
 use Rattle.round_all.specs.Kept.{round_kind}
 use Rattle.sheet_bends.specs.Bends.{is_inside, is_around, is_outside, outside_of, is_bend}
-use Rattle.sheet_bends.specs.Kept.{bend_cell}
+use Rattle.sheet_bends.specs.Kept.{bend_of}
+use Rattle.sheet_bends.specs.Work.{outside_found}
 
 -- ---- the kinds
 is_one : (r c h : Bool) → eqb (cond r (cond c (cond h 3 2) 1) 0) 1 ≡ (r && not c)
@@ -81,25 +83,34 @@ none_more test g before here i l = go (lt_or_ge i g)
         let same : g ≡ i = omega (arith, l, above) in
         subst (λ (k : ℕ). test k ≡ false) same here
 
-pub outside_found : (t : Part) (thick : Float) (f n g : ℕ) → n ≡ faces_of t → g < n → ((i : ℕ) → i < g → is_outside t thick f i ≡ false) →
+first_outside : (t : Part) (thick : Float) (f n g : ℕ) → n ≡ faces_of t → g < n → ((i : ℕ) → i < g → is_outside t thick f i ≡ false) →
     is_outside t thick f g ≡ true → g ≡ outside_of t thick f
 unfolding outside_of
-outside_found t thick f n g all l none here = sym (lowest_is (faces_of t) (is_outside t thick f) g (omega (arith, l, all)) (λ m. here) none)
+first_outside t thick f n g all l none here = sym (lowest_is (faces_of t) (is_outside t thick f) g (omega (arith, l, all)) (λ m. here) none)
 
-pub outside_none : (t : Part) (thick : Float) (f n g : ℕ) → n ≡ faces_of t → n ≤ g → ((i : ℕ) → i < g → is_outside t thick f i ≡ false) → n ≡ outside_of t thick f
+no_outside : (t : Part) (thick : Float) (f n g : ℕ) → n ≡ faces_of t → n ≤ g → ((i : ℕ) → i < g → is_outside t thick f i ≡ false) → n ≡ outside_of t thick f
 unfolding outside_of
-outside_none t thick f n g all l none =
+no_outside t thick f n g all l none =
     sym (lowest_is (faces_of t) (is_outside t thick f) n (omega (arith, all)) (λ m. absurd (omega (arith, m, all))) (λ i m. none i (omega (arith, m, l))))
 
--- ---- the cell of a face
-pub cell_outer : (t : Part) (thick : Float) (f : ℕ) → is_inside t f ≡ false → 0 ≡ bend_cell t thick f
-unfolding bend_cell is_bend
-cell_outer t thick f h = rw (h)
+pub outside_some : (t : Part) (thick : Float) (f n g : ℕ) → n ≡ faces_of t → g < n → ((i : ℕ) → i < g → is_outside t thick f i ≡ false) →
+    is_outside t thick f g ≡ true → Some g ≡ outside_found t thick f
+unfolding outside_found
+outside_some t thick f n g all l none here =
+    let e = first_outside t thick f n g all l none here in
+    rw (lt-ltb (outside_of t thick f) (faces_of t) (omega (arith, l, all, e))) (ap Some e)
 
-pub cell_alone : (t : Part) (thick : Float) (f n g : ℕ) → n ≡ faces_of t → is_inside t f ≡ true → g ≡ outside_of t thick f → n ≤ g → 0 ≡ bend_cell t thick f
-unfolding bend_cell is_bend
-cell_alone t thick f n g all h e l = rw (h, le-ltb (outside_of t thick f) (faces_of t) (omega (arith, l, all, e)))
+pub outside_none : (t : Part) (thick : Float) (f n g : ℕ) → n ≡ faces_of t → n ≤ g → ((i : ℕ) → i < g → is_outside t thick f i ≡ false) → None ≡ outside_found t thick f
+unfolding outside_found
+outside_none t thick f n g all l none =
+    let e = no_outside t thick f n g all l none in
+    rw (le-ltb (outside_of t thick f) (faces_of t) (omega (arith, all, e)))
 
-pub cell_bend : (t : Part) (thick : Float) (f n g : ℕ) → n ≡ faces_of t → is_inside t f ≡ true → g ≡ outside_of t thick f → g < n → g + 1 ≡ bend_cell t thick f
-unfolding bend_cell is_bend
-cell_bend t thick f n g all h e l = rw (h, lt-ltb (outside_of t thick f) (faces_of t) (omega (arith, l, all, e))) (omega (arith, e))
+-- ---- the bend of a face
+pub bend_outer : (t : Part) (thick : Float) (f : ℕ) → is_inside t f ≡ false → None ≡ bend_of t thick f
+unfolding bend_of is_bend
+bend_outer t thick f h = rw (h)
+
+pub bend_inner : (t : Part) (thick : Float) (f : ℕ) (r : Option ℕ) → is_inside t f ≡ true → r ≡ outside_found t thick f → r ≡ bend_of t thick f
+unfolding bend_of outside_found is_bend
+bend_inner t thick f r h e = e ∙ rw (h)

@@ -28,22 +28,23 @@ use Rattle.scratch.specs.Standing.{Standing}
 use Rattle.scratch.proofs.StandingLaws.{placed_polygons}
 use Rattle.solid_tours.proofs.Passing.{passing_more, passing_past, passing_step, passing_zero}
 use Rattle.sheet_bends.specs.Bends.{outside_of, is_bend, bends_of, bend_count, is_bend_face}
-use Rattle.sheet_bends.specs.Kept.{bend_cell, BendsPut}
+use Rattle.sheet_bends.specs.Kept.{bend_of, bend_cell, BendsPut}
 use Rattle.sheet_bends.specs.Work.{bend_stored, is_of_bend, BendsTo}
-use Rattle.sheet_bends.proofs.BendLaws.{bend_none, bend_is}
+use Rattle.std.specs.Prelude.{Some, None}
+use Rattle.sheet_bends.proofs.BendLaws.{no_bend, some_bend, outside_below, none_cell, some_cell}
 
 -- ---- how many there are
 pub count_none : (t : Part) (thick : Float) → 0 ≡ length (passing (is_bend t thick) 0)
 unfolding passing
 count_none t thick = refl
 
-pub count_skip : (t : Part) (thick : Float) (f n r : ℕ) → r ≡ bend_cell t thick f → r ≡ 0 → n ≡ length (passing (is_bend t thick) f) → n ≡ length (passing (is_bend t thick) (f + 1))
-count_skip t thick f n r e z h = h ∙ sym (ap (λ (l : List ℕ). length l) (passing_past (is_bend t thick) f (bend_none t thick f (sym e ∙ z))))
+pub count_skip : (t : Part) (thick : Float) (f n : ℕ) → None ≡ bend_of t thick f → n ≡ length (passing (is_bend t thick) f) → n ≡ length (passing (is_bend t thick) (f + 1))
+count_skip t thick f n e h = h ∙ sym (ap (λ (l : List ℕ). length l) (passing_past (is_bend t thick) f (no_bend t thick f e)))
 
-pub count_more : (t : Part) (thick : Float) (f n r : ℕ) → r ≡ bend_cell t thick f → (r ≡ 0 → ⊥) → n ≡ length (passing (is_bend t thick) f) →
+pub count_more : (t : Part) (thick : Float) (f n g : ℕ) → Some g ≡ bend_of t thick f → n ≡ length (passing (is_bend t thick) f) →
     n + 1 ≡ length (passing (is_bend t thick) (f + 1))
-count_more t thick f n r e z h =
-    let more = passing_more (is_bend t thick) f (bend_is t thick f r e z).0 in
+count_more t thick f n g e h =
+    let more = passing_more (is_bend t thick) f (some_bend t thick f g e).0 in
     ap (λ (k : ℕ). k + 1) h ∙ sym (ap (λ (l : List ℕ). length l) more ∙ length-append (passing (is_bend t thick) f) (f ∷ []))
 
 -- no more than the faces below f
@@ -150,8 +151,8 @@ module _ (s : List ℕ) (at : Regions) (words : List ℕ) (reals : List Float) (
           kept = outside_none 0 at.order at.kinds cleared;
         }
 
-  module _ (thick : Float) (words' : List ℕ) (n r : ℕ) (low : n < faces_of t) (e : r ≡ bend_cell t thick n) (h : BendsTo t thick at n words words') where
-    pub bends_skip : r ≡ 0 → BendsTo t thick at (n + 1) words words'
+  module _ (thick : Float) (words' : List ℕ) (n : ℕ) (low : n < faces_of t) (h : BendsTo t thick at n words words') where
+    pub bends_skip : None ≡ bend_of t thick n → BendsTo t thick at (n + 1) words words'
     bends_skip z =
         record {
           outside = λ f l. go f l (lt_or_ge f n);
@@ -164,77 +165,80 @@ module _ (s : List ℕ) (at : Regions) (words : List ℕ) (reals : List Float) (
         go f l (inl below) = h.outside f below
         go f l (inr above) =
             let here : n ≡ f = omega (arith, l, above) in
-            subst (λ (k : ℕ). get_or words' (at.order + k) 0 ≡ bend_cell t thick k) here (h.left n (omega arith) low ∙ sym z ∙ e)
+            subst (λ (k : ℕ). get_or words' (at.order + k) 0 ≡ bend_cell t thick k) here (h.left n (omega arith) low ∙ none_cell t thick n z)
 
         same : (g : ℕ) → some_below (n + 1) (is_of_bend t thick g) ≡ some_below n (is_of_bend t thick g)
         same g =
             some_more n (is_of_bend t thick g)
-            ∙ ap (λ (b : Bool). some_below n (is_of_bend t thick g) || b) (of_none t thick g n (bend_none t thick n (sym e ∙ z)))
+            ∙ ap (λ (b : Bool). some_below n (is_of_bend t thick g) || b) (of_none t thick g n (no_bend t thick n z))
             ∙ or_false (some_below n (is_of_bend t thick g))
 
-    module _ (z : r ≡ 0 → ⊥) (most : r ≤ faces_of t) (words'' : List ℕ) (put : words'' ≡ bend_stored at n r words') where
+    module _ (o : ℕ) (e : Some o ≡ bend_of t thick n) (words'' : List ℕ) (put : words'' ≡ bend_stored at n o words') where
       abbrev P : ℕ
       P = at.polygons
 
+      most : o < faces_of t
+      most = outside_below t thick n o e
+
       abbrev first : List ℕ
-      first = set words' (at.order + n) r
+      first = set words' (at.order + n) (o + 1)
 
       abbrev stored : List ℕ
-      stored = set (set first (at.order + P + n) 1) (at.order + P + (r - 1)) 1
+      stored = set (set first (at.order + P + n) 1) (at.order + P + o) 1
 
       is_stored : words'' ≡ stored
       unfolding bend_stored
       is_stored = put
 
       long : length first ≡ length words
-      long = length-set words' (at.order + n) r ∙ h.kept.long
+      long = length-set words' (at.order + n) (o + 1) ∙ h.kept.long
 
       -- a cell before the marks
       before : (f : ℕ) → f < P → get_or words'' (at.order + f) 0 ≡ get_or first (at.order + f) 0
       before f l =
           ap (λ (k : List ℕ). get_or k (at.order + f) 0) is_stored
-          ∙ get_or-set_other (set first (at.order + P + n) 1) (at.order + P + (r - 1)) (at.order + f) 1 0 (λ q. omega (arith, q, l))
+          ∙ get_or-set_other (set first (at.order + P + n) 1) (at.order + P + o) (at.order + f) 1 0 (λ q. omega (arith, q, l))
           ∙ get_or-set_other first (at.order + P + n) (at.order + f) 1 0 (λ q. omega (arith, q, l))
 
       other : (f : ℕ) → f < P → (f ≡ n → ⊥) → get_or words'' (at.order + f) 0 ≡ get_or words' (at.order + f) 0
-      other f l ne = before f l ∙ get_or-set_other words' (at.order + n) (at.order + f) r 0 (λ q. ne (omega (arith, q)))
+      other f l ne = before f l ∙ get_or-set_other words' (at.order + n) (at.order + f) (o + 1) 0 (λ q. ne (omega (arith, q)))
 
-      here : get_or words'' (at.order + n) 0 ≡ r
-      here = before n (omega (arith, low, few)) ∙ get_or-set_same words' (at.order + n) r 0 (omega (arith, low, few, laid, room, h.kept.long))
+      here : get_or words'' (at.order + n) 0 ≡ o + 1
+      here = before n (omega (arith, low, few)) ∙ get_or-set_same words' (at.order + n) (o + 1) 0 (omega (arith, low, few, laid, room, h.kept.long))
 
       outside_go : (f : ℕ) → f < n + 1 → (f < n) ⊎ (n ≤ f) → get_or words'' (at.order + f) 0 ≡ bend_cell t thick f
       outside_go f l (inl below) = other f (omega (arith, below, low, few)) (λ q. omega (arith, q, below)) ∙ h.outside f below
       outside_go f l (inr above) =
           let same : n ≡ f = omega (arith, l, above) in
-          subst (λ (k : ℕ). get_or words'' (at.order + k) 0 ≡ bend_cell t thick k) same (here ∙ e)
+          subst (λ (k : ℕ). get_or words'' (at.order + k) 0 ≡ bend_cell t thick k) same (here ∙ some_cell t thick n o e)
 
       left_go : (f : ℕ) → n + 1 ≤ f → f < faces_of t → get_or words'' (at.order + f) 0 ≡ 0
       left_go f l m = other f (omega (arith, m, few)) (λ q. omega (arith, q, l)) ∙ h.left f (omega (arith, l)) m
 
       -- the mark of face g
       mark_old : (g : ℕ) → g < faces_of t → get_or first (at.order + P + g) 0 ≡ cond (some_below n (is_of_bend t thick g)) 1 0
-      mark_old g m = get_or-set_other words' (at.order + n) (at.order + P + g) r 0 (λ q. omega (arith, q, low, few)) ∙ h.marks g m
+      mark_old g m = get_or-set_other words' (at.order + n) (at.order + P + g) (o + 1) 0 (λ q. omega (arith, q, low, few)) ∙ h.marks g m
 
-      mark_new : (g : ℕ) → some_below (n + 1) (is_of_bend t thick g) ≡ (some_below n (is_of_bend t thick g) || (eqb n g || eqb (r - 1) g))
+      mark_new : (g : ℕ) → some_below (n + 1) (is_of_bend t thick g) ≡ (some_below n (is_of_bend t thick g) || (eqb n g || eqb o g))
       mark_new g =
-          let b = bend_is t thick n r e z in
-          let out : outside_of t thick n ≡ r - 1 = omega (arith, b.1) in
+          let b = some_bend t thick n o e in
+          let out : outside_of t thick n ≡ o = sym b.1 in
           some_more n (is_of_bend t thick g)
           ∙ ap (λ (b : Bool). some_below n (is_of_bend t thick g) || b) (of_bend t thick g n b.0 ∙ ap (λ (k : ℕ). eqb n g || eqb k g) out)
 
       mark_go : (g : ℕ) → g < faces_of t → get_or words'' (at.order + P + g) 0 ≡ cond (some_below (n + 1) (is_of_bend t thick g)) 1 0
       mark_go g m =
           ap (λ (k : List ℕ). get_or k (at.order + P + g) 0) is_stored
-          ∙ marked first (at.order + P) n (r - 1) g (some_below n (is_of_bend t thick g)) (omega (arith, low, few, laid, room, long))
+          ∙ marked first (at.order + P) n o g (some_below n (is_of_bend t thick g)) (omega (arith, low, few, laid, room, long))
           (omega (arith, most, few, laid, room, long, low)) (mark_old g m)
           ∙ ap (λ (b : Bool). cond b 1 0) (sym (mark_new g))
 
       kept_go : Outside 0 at.order at.kinds words stored
       kept_go =
           outside_then 0 _ _ words words' stored h.kept
-          (outside_then 0 _ _ words' first stored (outside_set 0 _ _ words' (at.order + n) r (omega arith) (omega (arith, low, few, laid)))
+          (outside_then 0 _ _ words' first stored (outside_set 0 _ _ words' (at.order + n) (o + 1) (omega arith) (omega (arith, low, few, laid)))
           (outside_then 0 _ _ first (set first (at.order + P + n) 1) stored (outside_set 0 _ _ first (at.order + P + n) 1 (omega arith) (omega (arith, low, few, laid)))
-          (outside_set 0 _ _ (set first (at.order + P + n) 1) (at.order + P + (r - 1)) 1 (omega arith) (omega (arith, most, low, few, laid)))))
+          (outside_set 0 _ _ (set first (at.order + P + n) 1) (at.order + P + o) 1 (omega arith) (omega (arith, most, low, few, laid)))))
 
       pub bends_more : BendsTo t thick at (n + 1) words words''
       bends_more =

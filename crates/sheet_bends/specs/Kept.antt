@@ -1,12 +1,16 @@
 -- What the scratch holds of a sheet's bends. Definitions only.
-use Rattle.std.specs.Prelude.{◌≡◌, cond, List, ℕ, suc, ◌+◌, ◌<◌, get_or, Float}
+use Rattle.std.specs.Prelude.{◌≡◌, cond, List, ℕ, suc, ◌+◌, ◌<◌, get_or, Float, Option, Some, None}
 use Rattle.list_laws.specs.Region.{Outside}
 use Rattle.file_part.specs.Part.{Part}
 use Rattle.solid_faces.specs.Faces.{faces_of}
 use Rattle.scratch.specs.declared.regions.Regions.{Regions}
 use Rattle.sheet_bends.specs.Bends.{outside_of, is_bend, bend_count, is_bend_face}
 
--- the bend of a face: 0 is none, and g + 1 is one with the outside face g
+-- the bend of a face: its outside face
+unfoldable pub bend_of : Part → Float → ℕ → Option ℕ
+bend_of t thick f = cond (is_bend t thick f) (Some (outside_of t thick f)) None
+
+-- as a cell: 0 is none, and g + 1 is one with the outside face g
 unfoldable pub bend_cell : Part → Float → ℕ → ℕ
 bend_cell t thick f = cond (is_bend t thick f) (suc (outside_of t thick f)) 0
 

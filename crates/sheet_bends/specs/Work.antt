@@ -1,5 +1,5 @@
 -- What the private functions here say of the scratch: a reader of the meaning may pass over it. Definitions only.
-use Rattle.std.specs.Prelude.{List, ◌≡◌, Bool, ◌&&◌, ◌||◌, cond, ℕ, ◌+◌, ◌-◌, ◌≤◌, ◌<◌, Float, eqb, get_or, set}
+use Rattle.std.specs.Prelude.{List, ◌≡◌, Bool, ◌&&◌, ◌||◌, cond, ℕ, ◌+◌, ◌≤◌, ◌<◌, Float, eqb, ltb, get_or, set, Option, Some, None}
 use Rattle.list_laws.specs.Region.{Outside}
 use Rattle.file_part.specs.Part.{part_of, Part}
 use Rattle.solid_faces.specs.Faces.{faces_of}
@@ -21,9 +21,13 @@ pub record SheetStands (s : List ℕ) (sheet : Sheet) (words : List ℕ) (reals 
   pub bends : Bends (part_of s) sheet.thickness sheet.edges.at words
 
 -- ---- on the way
--- a bend of face f is put
+-- the first face outside of face f
+unfoldable pub outside_found : Part → Float → ℕ → Option ℕ
+outside_found t thick f = cond (ltb (outside_of t thick f) (faces_of t)) (Some (outside_of t thick f)) None
+
+-- a bend of face f with the outside face g is put
 unfoldable pub bend_stored : Regions → ℕ → ℕ → List ℕ → List ℕ
-bend_stored at f bend words = set (set (set words (at.order + f) bend) (at.order + at.polygons + f) 1) (at.order + at.polygons + (bend - 1)) 1
+bend_stored at f g words = set (set (set words (at.order + f) (g + 1)) (at.order + at.polygons + f) 1) (at.order + at.polygons + g) 1
 
 -- face g is of the bend of face f
 unfoldable pub is_of_bend : Part → Float → ℕ → ℕ → Bool

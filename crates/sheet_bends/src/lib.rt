@@ -1,18 +1,18 @@
 // The bends of a sheet: concave rounds that are no holes, each with the first convex one around it.
 #![tactic(auto)]
 
-ghost use Rattle.std.specs.Prelude.{◌≡◌, true, ◌≤◌, ◌<◌, length};
+ghost use Rattle.std.specs.Prelude.{◌≡◌, true, ◌+◌, ◌≤◌, ◌<◌, length, Some};
 ghost use Rattle.file_part.specs.Part.{part_of};
 ghost use Rattle.solid_faces.specs.Faces.{faces_of};
 ghost use Rattle.scratch.specs.Regions.{Laid};
 ghost use Rattle.scratch.specs.Standing.{Standing};
 ghost use Rattle.round_all.specs.Round.{is_round};
 ghost use Rattle.round_all.specs.Kept.{Rounds};
-ghost use Rattle.sheet_bends.specs.Bends.{is_close, is_around, outside_of, is_bend_face, bend_radius};
-ghost use Rattle.sheet_bends.specs.Kept.{bend_cell, BendsPut};
-ghost use Rattle.sheet_bends.specs.Work.{SheetStands, bend_stored};
+ghost use Rattle.sheet_bends.specs.Bends.{is_close, is_around, is_bend_face, bend_radius};
+ghost use Rattle.sheet_bends.specs.Kept.{bend_of, BendsPut};
+ghost use Rattle.sheet_bends.specs.Work.{SheetStands, outside_found, bend_stored};
 
-use list_cells::{cell, fill_words};
+use list_cells::{cell, fill};
 use num_real::select::{abs, max};
 use round_all::round::{Round, round_at};
 use scratch::regions::Regions;
@@ -45,7 +45,7 @@ fn is_around(thick: f64, inner: Round, outer: Round) -> bool
     false
 }
 
-// The first face of n outside of face f, which is a round; n where there is none.
+// The first face of n outside of face f, which is a round.
 fn outside_of(
     file: &[u8],
     words: &[u32],
@@ -54,32 +54,29 @@ fn outside_of(
     n: usize,
     thick: f64,
     f: usize,
-) -> usize
+) -> Option<usize>
     requires standing_1 { Standing file.now at words.now reals.now }
     requires standing_2 { Rounds (part_of file.now) at words.now reals.now }
     requires standing_3 { n ≡ faces_of (part_of file.now) }
     requires f_lt_n_1 { f < n }
     requires f_lt_n_2 { is_round (part_of file.now) f ≡ true }
-    ensures { result ≡ outside_of (part_of file.now) thick f }
+    ensures { result ≡ outside_found (part_of file.now) thick f }
 {
     let inner = round_at(file, words, reals, at, f);
     let kinds = at.kinds;
-    let mut g: usize = 0;
-    'faces: while g < n {
-        let face = g;
-        g += 1;
+    for g in 0..n {
         // Convex rounds alone.
-        if words[kinds + face] != 1 {
-            continue 'faces;
+        if words[kinds + g] != 1 {
+            continue;
         }
-        if is_around(thick, inner, round_at(file, words, reals, at, face)) {
-            return face;
+        if is_around(thick, inner, round_at(file, words, reals, at, g)) {
+            return Some(g);
         }
     }
-    n
+    None
 }
 
-// The bend of face f of n: 0 where it is the inside of none, and g + 1 where g is its outside.
+// The bend of face f of n: its outside face, where f is the inside of one.
 fn bend_of(
     file: &[u8],
     words: &[u32],
@@ -88,40 +85,34 @@ fn bend_of(
     n: usize,
     thick: f64,
     f: usize,
-) -> usize
+) -> Option<usize>
     requires standing_1 { Standing file.now at words.now reals.now }
     requires standing_2 { Rounds (part_of file.now) at words.now reals.now }
     requires standing_3 { n ≡ faces_of (part_of file.now) }
     requires f_lt_n { f < n }
-    ensures fact_1 { result ≡ bend_cell (part_of file.now) thick f }
-    ensures fact_2 { result ≤ n }
+    ensures { result ≡ bend_of (part_of file.now) thick f }
 {
     let kinds = at.kinds;
     // Concave rounds that are no holes.
     if words[kinds + f] != 2 {
-        return 0;
+        return None;
     }
-    let g = outside_of(file, words, reals, at, n, thick, f);
-    if g < n {
-        return g + 1;
-    }
-    0
+    outside_of(file, words, reals, at, n, thick, f)
 }
 
-// Keeps a bend, as `bend_of` gives it, of face f: its outside, and a mark for both faces.
-fn put_bend(words: &mut [u32], at: Regions, f: usize, bend: usize)
+// Keeps a bend of face f: its outside, after which 0 is none, and a mark for both faces.
+fn put_bend(words: &mut [u32], at: Regions, f: usize, outside: usize)
     requires laid_1 { Laid at }
     requires laid_2 { at.words ≤ length words.old }
     requires f_lt_polygons_1 { f < at.polygons }
-    requires f_lt_polygons_2 { 0 < bend }
-    requires f_lt_polygons_3 { bend ≤ at.polygons }
-    ensures { words.new ≡ bend_stored at f bend words.old }
+    requires f_lt_polygons_2 { outside < at.polygons }
+    ensures { words.new ≡ bend_stored at f outside words.old }
 {
     let order = at.order;
     let marks = order + at.polygons;
-    words[order + f] = bend as u32;
+    words[order + f] = (outside + 1) as u32;
     words[marks + f] = 1;
-    words[marks + (bend - 1)] = 1;
+    words[marks + outside] = 1;
 }
 
 // Keeps the bends of a part of n faces whose rounds stand in the scratch, in the cells of the order. How many there are.
@@ -140,30 +131,26 @@ pub fn put_bends(
 {
     let order = at.order;
     let end = at.kinds;
-    fill_words(&mut words[order..end], 0);
+    fill(&mut words[order..end], 0);
     let mut count: usize = 0;
-    let mut f: usize = 0;
-    'faces: while f < n {
-        let face = f;
-        f += 1;
-        let bend = bend_of(file, &words[..], reals, at, n, thick, face);
-        if bend == 0 {
-            continue 'faces;
-        }
-        put_bend(words, at, face, bend);
+    for f in 0..n {
+        let Some(outside) = bend_of(file, &words[..], reals, at, n, thick, f) else {
+            continue;
+        };
+        put_bend(words, at, f, outside);
         count += 1;
     }
     count
 }
 
-// The bend of face f: 0 where it is the inside of none, and g + 1 where g is its outside.
-pub fn bend_at(file: &[u8], words: &[u32], reals: &[f64], sheet: Sheet, f: usize) -> usize
+// The bend of face f: its outside face, where f is the inside of one.
+pub fn bend_at(file: &[u8], words: &[u32], reals: &[f64], sheet: Sheet, f: usize) -> Option<usize>
     requires fact_1 { SheetStands file.now sheet words.now reals.now }
     requires fact_2 { f < faces_of (part_of file.now) }
-    ensures { result ≡ bend_cell (part_of file.now) sheet.thickness f }
+    ensures { result ≡ bend_of (part_of file.now) sheet.thickness f }
 {
     let at = sheet.edges.at;
-    cell(words, at.order + f)
+    cell(words, at.order + f).checked_sub(1)
 }
 
 // Whether face g is of a bend.
@@ -177,21 +164,17 @@ pub fn is_bend_face(file: &[u8], words: &[u32], reals: &[f64], sheet: Sheet, g: 
 }
 
 // The largest inside radius of a bend; 0.0 where there is none.
+// An f64, not an Option: the definition is that number.
 pub fn bend_radius(file: &[u8], words: &[u32], reals: &[f64], sheet: Sheet) -> f64
     requires { SheetStands file.now sheet words.now reals.now }
     ensures { result ≡ bend_radius (part_of file.now) sheet.thickness }
 {
-    let at = sheet.edges.at;
-    let n = sheet.edges.faces;
     let mut radius = 0.0;
-    let mut f: usize = 0;
-    'faces: while f < n {
-        let face = f;
-        f += 1;
-        if bend_at(file, words, reals, sheet, face) == 0 {
-            continue 'faces;
-        }
-        let inner = round_at(file, words, reals, at, face);
+    for f in 0..sheet.edges.faces {
+        let Some(_outside) = bend_at(file, words, reals, sheet, f) else {
+            continue;
+        };
+        let inner = round_at(file, words, reals, sheet.edges.at, f);
         radius = max(radius, inner.radius);
     }
     radius

@@ -1,6 +1,5 @@
 -- The steps of `measure`: from the rough thickness to what is measured.
-use mathlib.Core.Path.{◌≡◌, ap, ◌∙◌}
-use mathlib.Core.Bool.{false}
+use mathlib.Core.Path.{subst, ◌≡◌, ap, ◌∙◌}
 use mathlib.Core.List.{List}
 use Prim.Native.Nat.{ℕ, ◌+◌, ◌≤◌}
 use native.Mathlib.Omega.{arith}
@@ -20,7 +19,9 @@ use Rattle.wall_samples.specs.Stored.{reading, Readings}
 use Rattle.wall_median.specs.Rough.{rough_of}
 use Rattle.sheet_thickness.specs.declared.Middle.{Middle}
 use Rattle.sheet_thickness.specs.Thickness.{six_tenths, fifteen_hundredths, edge_limit, is_kept, kept_readings, is_off, added_to, off_area_of, is_uneven}
-use Rattle.sheet_thickness.specs.Kept.{Measured}
+use Rattle.std.specs.Prelude.{Some, None}
+use Rattle.sheet_thickness.specs.declared.Thickness.{Thickness}
+use Rattle.sheet_thickness.specs.Kept.{ThicknessIs, Measured}
 use Rattle.sheet_thickness.specs.Work.{DistancesPut, is_far, is_far_off, PassingPut, KeptStand, MiddleIs}
 use Rattle.sheet_thickness.proofs.ListLaws.{added_same}
 use Rattle.sheet_thickness.proofs.KeptLaws.{still_stands, still_read, still_ordered}
@@ -98,18 +99,11 @@ module _ (s : List ℕ) (at : Regions) (words : List ℕ) (reals : List Float) (
         )
 
         -- there is none
-        pub none_measured : n ≡ 0 → (a b c : Float) →
-            Measured t at words words2 reals reals1 (record { kept = 0; limit = limit; value = a; thinnest = b; thickest = c; uneven = false })
-        none_measured none a b c =
+        pub none_measured : n ≡ 0 → Measured t at words words2 reals reals1 None
+        none_measured none =
             record {
-              is = record {
-                limit = limit_is t x ex;
-                kept = omega (arith, none, count_is);
-                value = λ some. absurd (omega (arith, some));
-                thinnest = λ some. absurd (omega (arith, some));
-                thickest = λ some. absurd (omega (arith, some));
-                uneven = λ some. absurd (omega (arith, some));
-              };
+              none = λ _. omega (arith, none, count_is);
+              some = λ y e. cc;
               distances = d.distances;
               words_kept = w2;
               reals_kept = d.kept;
@@ -131,24 +125,32 @@ module _ (s : List ℕ) (at : Regions) (words : List ℕ) (reals : List Float) (
           unfolding is_uneven
           uneven_is = rw (off_area, i.total)
 
-          pub measured : Measured t at words words3 reals reals1 (record {
-            kept = n;
-            limit = limit;
-            value = r.value;
-            thinnest = r.thinnest;
-            thickest = r.thickest;
-            uneven = lt (mul binary64 fifteen_hundredths r.total) off;
-          })
-          measured =
+          abbrev found : Thickness
+          found =
               record {
-                is = record {
-                  limit = limit_is t x ex;
-                  kept = count_is;
-                  value = λ some. i.value;
-                  thinnest = λ some. i.thinnest;
-                  thickest = λ some. i.thickest;
-                  uneven = λ some. uneven_is;
-                };
+                limit = limit;
+                value = r.value;
+                thinnest = r.thinnest;
+                thickest = r.thickest;
+                uneven = lt (mul binary64 fifteen_hundredths r.total) off;
+              }
+
+          found_is : 1 ≤ n → ThicknessIs t found
+          found_is some =
+              record {
+                kept = omega (arith, some, count_is);
+                limit = limit_is t x ex;
+                value = i.value;
+                thinnest = i.thinnest;
+                thickest = i.thickest;
+                uneven = uneven_is;
+              }
+
+          pub measured : (n ≡ 0 → ⊥) → Measured t at words words3 reals reals1 (Some found)
+          measured some =
+              record {
+                none = λ e. cc;
+                some = λ y e. let same : found ≡ y = cc in subst (ThicknessIs t) same (found_is (omega (arith, some)));
                 distances = d.distances;
                 words_kept = outside_then 0 _ _ words words2 words3 w2 w3;
                 reals_kept = d.kept;

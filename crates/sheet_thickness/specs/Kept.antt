@@ -1,5 +1,5 @@
 -- What the scratch holds of a sheet's readings, and what is found of its thickness. Definitions only.
-use Rattle.std.specs.Prelude.{◌≡◌, cond, List, ℕ, ◌+◌, ◌≤◌, ◌<◌, length, get_or, Float}
+use Rattle.std.specs.Prelude.{◌≡◌, cond, List, ℕ, ◌+◌, ◌≤◌, ◌<◌, length, get_or, Float, Option, Some, None}
 use Rattle.std.specs.Float.{nan}
 use Rattle.list_laws.specs.Region.{Outside}
 use Rattle.file_part.specs.Part.{Part}
@@ -13,18 +13,20 @@ use Rattle.sheet_thickness.specs.Thickness.{reading_edge, edge_limit, kept_readi
 pub record Distances (t : Part) (at : Regions) (reals : List Float) : Type 0 where
   pub each : (k : ℕ) → k < length (readings_of t) → get_or reals (at.falling + k) nan ≡ reading_edge t k
 
--- what is measured; where no reading is kept there is nothing to measure
+-- what is measured of the readings that are kept, one at least
 pub record ThicknessIs (t : Part) (r : Thickness) : Type 0 where
+  pub kept : 1 ≤ length (kept_readings t)
   pub limit : r.limit ≡ edge_limit t
-  pub kept : r.kept ≡ length (kept_readings t)
-  pub value : 1 ≤ r.kept → r.value ≡ thickness_of t
-  pub thinnest : 1 ≤ r.kept → r.thinnest ≡ thinnest_of t
-  pub thickest : 1 ≤ r.kept → r.thickest ≡ thickest_of t
-  pub uneven : 1 ≤ r.kept → r.uneven ≡ is_uneven t
+  pub value : r.value ≡ thickness_of t
+  pub thinnest : r.thinnest ≡ thinnest_of t
+  pub thickest : r.thickest ≡ thickest_of t
+  pub uneven : r.uneven ≡ is_uneven t
 
--- it is measured, the distances stand, and of the scratch only the cells of the order and the keys have changed
-pub record Measured (t : Part) (at : Regions) (words words' : List ℕ) (reals reals' : List Float) (r : Thickness) : Type 0 where
-  pub is : ThicknessIs t r
+-- it is measured, where some reading is kept: where none is there is nothing to measure. The distances stand, and of the scratch only the cells of
+-- the order and the keys have changed
+pub record Measured (t : Part) (at : Regions) (words words' : List ℕ) (reals reals' : List Float) (r : Option Thickness) : Type 0 where
+  pub none : r ≡ None → length (kept_readings t) ≡ 0
+  pub some : (x : Thickness) → r ≡ Some x → ThicknessIs t x
   pub distances : Distances t at reals'
   pub words_kept : Outside 0 at.order at.kinds words words'
   pub reals_kept : Outside nan at.falling at.thickness reals reals'

@@ -16,7 +16,7 @@ ghost use Rattle.sheet_thickness.specs.Thickness.{is_off_by, added_to, edge_limi
 ghost use Rattle.sheet_thickness.specs.Kept.{Distances, Measured, OffFaces};
 ghost use Rattle.sheet_thickness.specs.Work.{DistancesPut, is_far, is_far_off, PassingPut, KeptStand, SortedMiddle, MiddleIs, FacesMarked};
 
-use list_cells::{cell, fill_words};
+use list_cells::{cell, fill};
 use list_median::{of_pair, weight_sum, weighted_median};
 use num_real::select::abs;
 use scratch::regions::Regions;
@@ -25,11 +25,10 @@ use wall_median::rough;
 use wall_pairs::Counts;
 use wall_samples::sample::sample_at;
 
-// What is measured: how many readings are kept, by how far from the segments of their face; their median, the least and the greatest; and
-// whether more of the part than is allowed is off the median. Where none is kept the last four mean nothing.
+// What is measured: how far from the segments of their face readings are kept; their median, the least and the greatest; and whether more of
+// the part than is allowed is off the median.
 #[derive(Clone, Copy)]
 pub struct Thickness {
-    pub kept: usize,
     pub limit: f64,
     pub value: f64,
     pub thinnest: f64,
@@ -56,13 +55,10 @@ fn put_distances(file: &[u8], words: &[u32], reals: &mut [f64], edges: Edges, m:
 {
     let at = edges.at;
     let falling = at.falling;
-    let mut k: usize = 0;
-    while k < m {
+    for k in 0..m {
         let s = sample_at(file, words, reals, at, k);
-        let point = s.point;
-        let distance = edge_distance(file, words, reals, edges, s.face, point);
+        let distance = edge_distance(file, words, reals, edges, s.face, s.point);
         reals[falling + k] = distance;
-        k += 1;
     }
 }
 
@@ -76,14 +72,10 @@ fn put_kept(words: &mut [u32], reals: &[f64], at: Regions, m: usize, limit: f64)
     let order = at.order;
     let falling = at.falling;
     let mut n: usize = 0;
-    let mut k: usize = 0;
-    'readings: while k < m {
-        let reading = k;
-        k += 1;
-        if reals[falling + reading] > limit {
-            words[order + n] = reading as u32;
+    for k in 0..m {
+        if reals[falling + k] > limit {
+            words[order + n] = k as u32;
             n += 1;
-            continue 'readings;
         }
     }
     n
@@ -115,13 +107,9 @@ fn off_area(reals: &[f64], at: Regions, m: usize, limit: f64, thickness: f64) ->
 {
     let weights = at.weights;
     let mut sum = 0.0;
-    let mut k: usize = 0;
-    'readings: while k < m {
-        let reading = k;
-        k += 1;
-        if is_off_at(reals, at, reading, limit, thickness) {
-            sum = sum + reals[weights + reading];
-            continue 'readings;
+    for k in 0..m {
+        if is_off_at(reals, at, k, limit, thickness) {
+            sum += reals[weights + k];
         }
     }
     sum
@@ -138,10 +126,10 @@ fn sorted_middle(values: &[f64], weights: &[f64], mem: &mut [u32], n: usize) -> 
     let thinnest = of_pair(values, mem, 0);
     let thickest = of_pair(values, mem, n - 1);
     Middle {
-        value: value,
-        total: total,
-        thinnest: thinnest,
-        thickest: thickest,
+        value,
+        total,
+        thinnest,
+        thickest,
     }
 }
 
@@ -177,14 +165,15 @@ fn middle_of(
     )
 }
 
-// What is measured of a part whose m readings and whose edges stand in the scratch. The distances of the readings then stand there too.
+// What is measured of a part whose m readings and whose edges stand in the scratch, where some reading is kept. The distances of the readings
+// then stand there too.
 pub fn measure(
     file: &[u8],
     words: &mut [u32],
     reals: &mut [f64],
     edges: Edges,
     m: usize,
-) -> Thickness
+) -> Option<Thickness>
     requires edges_ordered_1 { EdgesOrdered file.now edges.at words.old reals.old }
     requires edges_ordered_2 { Readings (part_of file.now) edges.at words.old reals.old }
     requires counted_1 { tours.Counted (part_of file.now) edges }
@@ -196,25 +185,17 @@ pub fn measure(
     put_distances(file, words, reals, edges, m);
     let n = put_kept(words, reals, at, m, limit);
     if n == 0 {
-        return Thickness {
-            kept: 0,
-            limit: limit,
-            value: 0.0,
-            thinnest: 0.0,
-            thickest: 0.0,
-            uneven: false,
-        };
+        return None;
     }
     let middle = middle_of(file, words, reals, at, m, n);
     let off = off_area(reals, at, m, limit, middle.value);
-    Thickness {
-        kept: n,
-        limit: limit,
+    Some(Thickness {
+        limit,
         value: middle.value,
         thinnest: middle.thinnest,
         thickest: middle.thickest,
         uneven: off > 0.15 * middle.total,
-    }
+    })
 }
 
 // Marks the two faces of reading k.
@@ -254,17 +235,10 @@ pub fn put_off_faces(
 {
     let order = at.order;
     let end = at.kinds;
-    fill_words(&mut words[order..end], 0);
-    let m = counts.readings;
-    let limit = found.limit;
-    let value = found.value;
-    let mut k: usize = 0;
-    'readings: while k < m {
-        let reading = k;
-        k += 1;
-        if is_off_at(reals, at, reading, limit, value) {
-            mark_faces(file, words, reals, at, reading);
-            continue 'readings;
+    fill(&mut words[order..end], 0);
+    for k in 0..counts.readings {
+        if is_off_at(reals, at, k, found.limit, found.value) {
+            mark_faces(file, words, reals, at, k);
         }
     }
 }

@@ -5,7 +5,7 @@ use native.Mathlib.Decide.{dec_lt}
 use borrow.Author.Count.{below_more}
 use borrow.Author.Tests.{eq-eqb}
 use borrow.Rule.Slice.PartMut.{put_mid, mid_len, same_len_mid}
-use mathlib.Core.Path.{◌≡◌, refl, sym, ap, subst, ◌∙◌}
+use mathlib.Core.Path.{◌≡◌, sym, ap, subst, ◌∙◌}
 use mathlib.Core.Bool.{true}
 use mathlib.Core.List.{List}
 use lib.Ieee.{Float}
@@ -86,9 +86,6 @@ module _ (s : List ℕ) (n v : ℕ) (c : List ℕ) (at : Vec3) (x y z : ℕ) (is
         ∙ get_or-set_other c k i x 0 (λ e. omega arith);
     long = length-set c₂ (k + 2) z ∙ length-set c₁ (k + 1) y ∙ length-set c k x;
   }
-
-pub keyed_none : (t : Part) (n : ℕ) (c : List ℕ) → Keyed t n 0 c c
-keyed_none t n c = record { keys = λ v h. absurd (omega arith); owners = λ v h. refl; long = refl }
 
 -- one vertex more
 module _ (t : Part) (n v : ℕ) (c₀ c c' : List ℕ) (d : Keyed t n v c₀ c) (put : KeyPut t n v c c') where
@@ -174,10 +171,6 @@ pub owned_all : (s c : List ℕ) (n p : ℕ) → Readable s → n ≡ vertex_cou
     Owned (part_of s) n c
 owned_all s c n p h vs ps d v l =
     d v (omega (arith, readable_whole s h, ap (run_start s (vertex_count_of s)) ps, vs, l))
-
--- both
-pub cornered : (t : Part) (n : ℕ) (c c' : List ℕ) → Owned t n c → Keyed t n n c c' → Cornered t n c'
-cornered t n c c' o k = record { owners = λ v h. subst (λ (q : ℕ). CornerOf t q v) (sym (k.owners v h)) (o v h); keys = k.keys }
 
 -- ---- the runs follow on, so that a vertex belongs to one polygon
 run_before : (s : List ℕ) → Readable s → (p q : ℕ) → q < polygon_count_of s → p < q →

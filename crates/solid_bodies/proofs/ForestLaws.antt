@@ -10,7 +10,7 @@ use mathlib.Core.List.{List}
 use lib.ListN.{length, get_or, set, length-set}
 use lib.Seq.{get_or-set_same, get_or-set_other}
 use Rattle.solid_bodies.specs.Body.{Chain, here}
-use Rattle.solid_bodies.specs.Work.Forest.{Falls, Carries, Up, Tie, Walked, Rooted, Linked, Flat}
+use Rattle.solid_bodies.specs.Work.Forest.{Falls, Carries, Up, Tie, Walked, Rooted, Linked}
 use Rattle.solid_bodies.proofs.ChainLaws.{one, then, turned, bind}
 
 below_of : {a b : ℕ} → a ≤ b → (a ≡ b → ⊥) → a < b
@@ -197,9 +197,6 @@ pub record Partly (p q : List ℕ) (n : ℕ) : Type 0 where
   pub tied : (i : ℕ) → i < n → Chain (Up p) i (get_or q i 0)
   pub rest : (i : ℕ) → n ≤ i → get_or q i 0 ≡ get_or p i 0
 
-pub flat_none : (p : List ℕ) → Partly p p 0
-flat_none p = record { long = refl; low = λ i h. omega arith; like = λ i h. absurd (omega arith); tied = λ i h. absurd (omega arith); rest = λ i h. refl }
-
 module _ (p q : List ℕ) (n : ℕ) (f : Falls p) (r : Partly p q n) (h : n < length p) where
   abbrev new : ℕ
   new = get_or q (get_or q n 0) 0
@@ -238,7 +235,7 @@ module _ (p q : List ℕ) (n : ℕ) (f : Falls p) (r : Partly p q n) (h : n < le
   like_below : (i : ℕ) → i < n → get_or q'' i 0 ≡ get_or q'' (get_or p i 0) 0
   like_below i l = below i l ∙ r.like i l ∙ sym (below (get_or p i 0) (let m : get_or p i 0 ≤ i = f i (omega arith) in omega arith))
 
-  flat_more : Partly p q'' (n + 1)
+  pub flat_more : Partly p q'' (n + 1)
   flat_more = record {
     long = length-set q n new ∙ r.long;
     low = below_more (λ (i : ℕ). get_or q'' i 0 ≤ i) n (λ i l. let e = below i l in let m = r.low i l in omega arith) facts.0;
@@ -246,23 +243,3 @@ module _ (p q : List ℕ) (n : ℕ) (f : Falls p) (r : Partly p q n) (h : n < le
     tied = below_more (λ (i : ℕ). Chain (Up p) i (get_or q'' i 0)) n (λ i l. subst (Chain (Up p) i) (sym (below i l)) (r.tied i l)) facts.2;
     rest = λ i l. get_or-set_other q n i new 0 (λ e. omega arith) ∙ r.rest i (omega arith);
   }
-
--- one turn, in the names of the code
-pub flat_turn : (p q : List ℕ) (n up : ℕ) → Falls p → Partly p q n → n < length p → up ≡ get_or q n 0 → Partly p (set q n (get_or q up 0)) (n + 1)
-flat_turn p q n up f r h u = subst (λ (k : ℕ). Partly p (set q n (get_or q k 0)) (n + 1)) (sym u) (flat_more p q n f r h)
-
--- the parent of the next one is in range
-pub flat_in : (p q : List ℕ) (n up : ℕ) → Falls p → Partly p q n → n < length p → up ≡ get_or q n 0 → up < length q
-flat_in p q n up f r h u =
-    let e = r.rest n (omega arith) in
-    let l = f n h in
-    let k = r.long in
-    omega arith
-
-pub flat_all : (p q : List ℕ) (n : ℕ) → Partly p q n → length p ≤ n → Flat p q
-flat_all p q n r l = record {
-  long = r.long;
-  low = λ i h. r.low i (let e = r.long in omega arith);
-  like = λ i h. r.like i (omega arith);
-  tied = λ i h. r.tied i (omega arith);
-}

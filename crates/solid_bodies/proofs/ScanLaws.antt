@@ -8,8 +8,8 @@ use mathlib.Core.Logic.{inl, inr}
 use mathlib.Core.List.{List}
 use lib.ListN.{length, get_or, get_or-eq_default}
 use Rattle.solid_bodies.specs.Body.{Chain, here, Lowest}
-use Rattle.solid_bodies.specs.Work.Forest.{Falls, Carries, Up, Tie, Linked, Taken, Apart, Flat}
-use Rattle.solid_bodies.specs.Work.{Corners, Meet, Made, Before}
+use Rattle.solid_bodies.specs.Work.Forest.{Falls, Carries, Up, Tie, Linked, Apart, Flat}
+use Rattle.solid_bodies.specs.Work.{Corners, Meet, Made}
 use Rattle.solid_bodies.proofs.ChainLaws.{one, then, turned, bind, constant}
 use Rattle.solid_bodies.proofs.ForestLaws.{ups, up_turned}
 
@@ -55,7 +55,7 @@ made_none m p a = record {
 }
 
 -- v has no corner of its key before it
-made_new : (m : Corners) (p : List ℕ) (v : ℕ) → Made m p v → ((w : ℕ) → w < v → m.key w ≡ m.key v → ⊥) → Made m p (v + 1)
+pub made_new : (m : Corners) (p : List ℕ) (v : ℕ) → Made m p v → ((w : ℕ) → w < v → m.key w ≡ m.key v → ⊥) → Made m p (v + 1)
 made_new m p v d none = record { falls = d.falls; sound = d.sound; whole = λ a b l h. pairs a b h l }
   where
     pairs : (a b : ℕ) → b < v + 1 → a < b → m.key a ≡ m.key b → Chain (Up p) (m.owner a) (m.owner b)
@@ -90,21 +90,12 @@ module _ (m : Corners) (p q : List ℕ) (u v : ℕ) (d : Made m p v) (uv : u < v
       below_more (λ (b : ℕ). a < b → m.key a ≡ m.key b → Chain (Up q) (m.owner a) (m.owner b)) v
       (λ b h l x. old a b l h x) (new_pair a)
 
-  made_tied : Made m q (v + 1)
+  pub made_tied : Made m q (v + 1)
   made_tied = record {
     falls = k.falls;
     sound = λ i j x. bind tie_sound (k.only i j x);
     whole = λ a b l h. pairs a b h l;
   }
-
-pub made_more : (m : Corners) (p q : List ℕ) (u v : ℕ) → Made m p v → v < m.count → Before m v u → Taken p q (m.owner u) (m.owner v) u v → Made m q (v + 1)
-made_more m p q u v d vk b t = go (dec_lt u v)
-  where
-    go : Dec (u < v) → Made m q (v + 1)
-    go (yes l) = made_tied m p q u v d l vk b.same (t.tied l)
-    go (no n) =
-        let l = b.low in
-        subst (λ (x : List ℕ). Made m x (v + 1)) (sym (t.left (omega arith))) (made_new m p v d (b.none (omega arith)))
 
 -- all corners scanned, and parents made labels
 pub made_all : (m : Corners) (p q : List ℕ) (v : ℕ) → Made m p v → m.count ≤ v → Flat p q → (i : ℕ) → i < length q → Lowest (Meet m) i (get_or q i 0)

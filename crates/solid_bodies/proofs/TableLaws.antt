@@ -1,11 +1,12 @@
 -- The table of slots: keys compared, the walk along a slot, and what a store does.
+use Rattle.std.specs.Prelude.{Some}
 use Prim.Native.Nat.{ℕ, suc, ◌≤◌, ◌<◌, ◌+◌, ◌-◌, ◌*◌, ◌/◌}
 use native.Mathlib.Omega.{arith}
 use native.Mathlib.Decide.{ℕ_discrete, dec_lt}
 use native.Mathlib.Nat.{mod-lt}
 use native.Mathlib.Numerals.{add-one}
 use borrow.Author.Count.{below_more}
-use mathlib.Core.Path.{◌≡◌, refl, sym, ap, subst, ◌∙◌}
+use mathlib.Core.Path.{◌≡◌, sym, ap, subst, ◌∙◌}
 use mathlib.Core.Bool.{Bool, true, false, ◌&&◌}
 use mathlib.Core.List.{List}
 use lib.Dec.{eqb}
@@ -69,11 +70,8 @@ seek_more m n u t v k ne g = record {
     go w l h e (no a) (yes b) = k.none w (omega arith) h e
     go w l h e (no a) (no b) = let z : u ≡ w = omega arith in ne (ap (λ (x : ℕ). m.key x) z ∙ e)
 
-pub seek_end : (m : Corners) (n t v : ℕ) → Seek m n t v → t ≤ 0 → Before m v v
-seek_end m n t v k z = record { low = omega arith; same = refl; none = λ e w l x. k.none w (omega arith) l x }
-
-seek_found : (m : Corners) (n u v : ℕ) → Seek m n (u + 1) v → m.key u ≡ m.key v → Before m v u
-seek_found m n u v k e = record { low = let a = k.low in omega arith; same = e; none = λ z w l x. absurd (let a = k.low in omega arith) }
+seek_found : (m : Corners) (n u v : ℕ) → Seek m n (u + 1) v → m.key u ≡ m.key v → Before m v (Some u)
+seek_found m n u v k e = (let a = k.low in omega arith, e)
 
 -- the walk in the names of the code
 pub seek_begin : (m : Corners) (n : ℕ) (tab : List ℕ) (v h t : ℕ) → Hashed m n tab v → 0 < n → h ≡ slot_of n (m.key v) → t ≡ get_or tab h 0 → Seek m n t v
@@ -98,7 +96,7 @@ module _ (m : Corners) (n : ℕ) (tab : List ℕ) (v t : ℕ) (r : Hashed m n ta
   pub seek_falls : (t' : ℕ) → t' ≡ get_or tab (n + (t - 1)) 0 → t' < t
   seek_falls t' e = let l = gap_one.low in omega arith
 
-  pub seek_hit : m.key (t - 1) ≡ m.key v → Before m v (t - 1)
+  pub seek_hit : m.key (t - 1) ≡ m.key v → Before m v (Some (t - 1))
   seek_hit e = seek_found m n (t - 1) v seek_one e
 
 -- corner v is put in front of its slot

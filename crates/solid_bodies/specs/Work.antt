@@ -1,6 +1,6 @@
 -- What private functions leave on the way; a reader may pass over it. Definitions only.
 pub mod Forest
-use Rattle.std.specs.Prelude.{◌≡◌, List, Bool, ◌&&◌, ℕ, ◌+◌, ◌*◌, ◌<◌, suc, ◌/◌, ◌%◌, ◌^◌, ◌≤◌, Float, length, get_or, take, eqb}
+use Rattle.std.specs.Prelude.{◌≡◌, Option, None, Some, List, Bool, ◌&&◌, ℕ, ◌+◌, ◌*◌, ◌<◌, suc, ◌/◌, ◌%◌, ◌^◌, ◌≤◌, Float, length, get_or, take, eqb}
 use Rattle.list_laws.specs.Region.{part}
 use Rattle.file_part.specs.Part.{Part}
 use Rattle.solid_segments.specs.Key.{body_scale}
@@ -83,11 +83,10 @@ corners_of n c = record { count = n; key = key_at n c; owner = λ v. get_or c v 
 unfoldable pub slot_of : ℕ → KeyNumbers → ℕ
 slot_of n k = (k.x * 73856093 + k.y * 19349663 + k.z * 83492791) / 16777216 % n
 
--- r is a corner before v with v's key, or v where there is none
-pub record Before (m : Corners) (v r : ℕ) : Type 0 where
-  pub low : r ≤ v
-  pub same : m.key r ≡ m.key v
-  pub none : r ≡ v → (w : ℕ) → w < v → m.key w ≡ m.key v → ⊥
+-- a corner before v with v's key, or none where there is none
+abbrev pub Before : Corners → ℕ → Option ℕ → Type 0
+Before m v (Some u) = (u < v) × (m.key u ≡ m.key v)
+Before m v None = (w : ℕ) → w < v → m.key w ≡ m.key v → ⊥
 
 -- t is one more than the last corner before v in slot h of n, or 0 where there is none
 pub record Gap (m : Corners) (n h t v : ℕ) : Type 0 where

@@ -8,7 +8,7 @@ ghost use Rattle.solid_bodies.specs.Work.{number_of, KeyPut, Keyed, Owned, Corne
 
 use file_part::corner::corner;
 use file_part::read::{entry_at, first_vertex, polygon_count, run_length};
-use list_cells::fill_words;
+use list_cells::fill;
 use num_real::rounding::round_i64;
 
 // A coordinate times 1e5, rounded, and counted from -10^9.
@@ -41,10 +41,8 @@ fn put_keys(file: &[u8], corners: &mut [u32], n: usize)
     requires fact_3 { length corners.old ≡ 4 * n }
     ensures { Keyed (part_of file.now) n n corners.old corners.new }
 {
-    let mut v: usize = 0;
-    while v < n {
+    for v in 0..n {
         put_key(file, corners, n, v);
-        v += 1;
     }
 }
 
@@ -56,13 +54,11 @@ fn put_owners(file: &[u8], corners: &mut [u32], n: usize)
     ensures { Owned (part_of file.now) n corners.new }
 {
     let polygons = polygon_count(file);
-    let mut p: usize = 0;
-    while p < polygons {
+    for p in 0..polygons {
         let at = entry_at(n, p);
         let first = first_vertex(file, at);
         let end = first + run_length(file, at);
-        fill_words(&mut corners[first..end], p as u32);
-        p += 1;
+        fill(&mut corners[first..end], p as u32);
     }
 }
 

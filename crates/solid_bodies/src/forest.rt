@@ -1,18 +1,14 @@
 // Union-find over a slice of parents, in which no parent is above its child.
 ghost use Rattle.std.specs.Prelude.{◌<◌, ◌^◌, length};
-ghost use Rattle.solid_bodies.specs.Work.Forest.{Falls, Apart, Rooted, Linked, Taken, Flat};
-
-use list_cells::wide;
+ghost use Rattle.solid_bodies.specs.Work.Forest.{Falls, Apart, Rooted, Linked, Flat};
 
 // Each is its own root.
 pub fn start(parents: &mut [u32])
     requires { length parents.old < 2 ^ 32 }
     ensures { Apart parents.new }
 {
-    let mut i: usize = 0;
-    while i < parents.len() {
-        parents[i] = i as u32;
-        i += 1;
+    for (i, parent) in parents.iter_mut().enumerate() {
+        *parent = i as u32;
     }
 }
 
@@ -23,12 +19,13 @@ pub fn root(parents: &mut [u32], i: usize) -> usize
     ensures { Rooted parents.old parents.new i result }
 {
     let mut at = i;
-    let mut up = wide(parents[at]);
+    let mut up = parents[at] as usize;
+    // A while: the way leads from parent to parent.
     while up != at {
         let over = parents[up];
         parents[at] = over;
-        at = wide(over);
-        up = wide(parents[at]);
+        at = over as usize;
+        up = parents[at] as usize;
     }
     at
 }
@@ -50,28 +47,13 @@ pub fn link(parents: &mut [u32], i: usize, j: usize)
     }
 }
 
-// Joins i and j, the owners of the corners u and v, unless u is v.
-pub fn tie(parents: &mut [u32], i: usize, j: usize, u: usize, v: usize)
-    requires fact_1 { length parents.old < 2 ^ 32 }
-    requires fact_2 { i < length parents.old }
-    requires fact_3 { j < length parents.old }
-    requires fact_4 { Falls parents.old }
-    ensures { Taken parents.old parents.new i j u v }
-{
-    if u < v {
-        link(parents, i, j);
-    }
-}
-
 // Each gets its root: by rising number, a parent has its own already.
 pub fn flatten(parents: &mut [u32])
     requires { Falls parents.old }
     ensures { Flat parents.old parents.new }
 {
-    let mut i: usize = 0;
-    while i < parents.len() {
-        let up = wide(parents[i]);
+    for i in 0..parents.len() {
+        let up = parents[i] as usize;
         parents[i] = parents[up];
-        i += 1;
     }
 }

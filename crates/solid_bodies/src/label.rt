@@ -7,10 +7,10 @@ ghost use Rattle.solid_bodies.specs.Body.{body_cells, Bodies};
 ghost use Rattle.solid_bodies.specs.Work.{Memory, Scanned, Step, Labelled};
 
 use crate::corner::put_corners;
-use crate::forest::{flatten, start, tie};
+use crate::forest::{flatten, link, start};
 use crate::table::{find, owner, push, slot};
 use file_part::read::{polygon_count, vertex_count};
-use list_cells::fill_words;
+use list_cells::fill;
 
 // Each polygon a body of its own, and an empty table.
 fn ready(mem: &mut [u32], p: usize, n: usize)
@@ -20,7 +20,7 @@ fn ready(mem: &mut [u32], p: usize, n: usize)
     let q = p + 4 * n;
     let e = q + 2 * n;
     start(&mut mem[..p]);
-    fill_words(&mut mem[q..e], 0);
+    fill(&mut mem[q..e], 0);
 }
 
 // One corner more: its polygon is joined with that of an earlier corner of the same key.
@@ -33,10 +33,11 @@ fn turn(mem: &mut [u32], p: usize, n: usize, v: usize)
     let q = p + 4 * n;
     let e = q + 2 * n;
     let h = slot(&mem[p..q], n, v);
-    let u = find(&mem[p..q], &mem[q..e], n, h, v);
-    let i = owner(&mem[p..q], u);
-    let j = owner(&mem[p..q], v);
-    tie(&mut mem[..p], i, j, u, v);
+    if let Some(u) = find(&mem[p..q], &mem[q..e], n, h, v) {
+        let i = owner(&mem[p..q], u);
+        let j = owner(&mem[p..q], v);
+        link(&mut mem[..p], i, j);
+    }
     push(&mut mem[q..e], n, h, v);
 }
 
@@ -46,10 +47,8 @@ fn join(mem: &mut [u32], p: usize, n: usize)
     ensures { Labelled p n mem.old mem.new }
 {
     ready(mem, p, n);
-    let mut v: usize = 0;
-    while v < n {
+    for v in 0..n {
         turn(mem, p, n, v);
-        v += 1;
     }
     flatten(&mut mem[..p]);
 }

@@ -3,17 +3,16 @@
 ghost use Rattle.std.specs.Prelude.{◌≡◌, ◌+◌, ◌*◌, ◌<◌, ◌^◌, length, get_or, set};
 ghost use Rattle.solid_bodies.specs.Work.{key_at, eq_key, corners_of, slot_of, Before, Hashed};
 
-use list_cells::wide;
-
 // The polygon that corner v belongs to.
 pub fn owner(corners: &[u32], v: usize) -> usize
     requires { v < length corners.now }
     ensures { result ≡ get_or corners.now v 0 }
 {
-    wide(corners[v])
+    corners[v] as usize
 }
 
 // Whether the corners u and v have one key.
+#[tactic(auto, unfolding(crate::specs::Work::eq_key))]
 pub fn same(corners: &[u32], n: usize, u: usize, v: usize) -> bool
     requires fact_1 { length corners.now ≡ 4 * n }
     requires fact_2 { u < n }
@@ -40,8 +39,8 @@ pub fn slot(corners: &[u32], n: usize, v: usize) -> usize
     (x * 73856093 + y * 19349663 + z * 83492791) / 16777216 % n
 }
 
-// A corner before v with v's key, by the corners in v's slot h; v where there is none.
-pub fn find(corners: &[u32], table: &[u32], n: usize, h: usize, v: usize) -> usize
+// A corner before v with v's key, by the corners in v's slot h.
+pub fn find(corners: &[u32], table: &[u32], n: usize, h: usize, v: usize) -> Option<usize>
     requires corners_len_1 { length corners.now ≡ 4 * n }
     requires corners_len_2 { length table.now ≡ 2 * n }
     requires corners_len_3 { v < n }
@@ -49,15 +48,16 @@ pub fn find(corners: &[u32], table: &[u32], n: usize, h: usize, v: usize) -> usi
     requires h_value_2 { Hashed (corners_of n corners.now) n table.now v }
     ensures { Before (corners_of n corners.now) v result }
 {
-    let mut at = wide(table[h]);
+    let mut at = table[h] as usize;
+    // A while: the chain of links in the slot is followed to its end.
     while 0 < at {
         let u = at - 1;
         if same(corners, n, u, v) {
-            return u;
+            return Some(u);
         }
-        at = wide(table[n + u]);
+        at = table[n + u] as usize;
     }
-    v
+    None
 }
 
 // Puts corner v in front of the slot h.

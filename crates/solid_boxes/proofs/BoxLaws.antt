@@ -322,9 +322,6 @@ module _ (words : List ℕ) (n i v : ℕ) where
             (λ g. let e : j ≡ i = omega (arith, g, l) in rw (e, put_same boxes i b R, skip_new Q) (node_kept own boxes b m i v b M (omega arith) li w));
       }
 
-pub filled_none : (own : ℕ → Bounds) (boxes : List Float) (words : List ℕ) (n m : ℕ) → Filled own boxes words n m m
-filled_none own boxes words n m = record { each = λ j l k. absurd {A = Node own boxes words n m j (box_at boxes j) (skip_at words n j)} (omega (arith, l, k)) }
-
 pub filled_tree : (t : Part) (boxes : List Float) (words : List ℕ) (n m i : ℕ) → n ≡ t.polygons → 6 * m ≤ length boxes → 3 * n + 1 ≤ length words →
     Started words n m → i ≤ 0 → Filled (λ p. padded (own_box_of t p)) boxes words n m i → PartTree t boxes words
 filled_tree t boxes words n m i en R Q M z F =
@@ -420,19 +417,16 @@ pub fill_step : (own : ℕ → Bounds) (boxes boxes₁ boxes₀ : List Float) (w
     i ≤ m →
     length boxes ≡ length boxes₀ → length words ≡ length words₀ → 6 * m ≤ length boxes₀ → 3 * n + 1 ≤ length words₀ → Started words n m →
     Filled own boxes words n m i → Node own boxes words n m (i - 1) b v → boxes₁ ≡ put_box boxes (i - 1) b → words₁ ≡ set words (2 * n + 1 + (i - 1)) v →
-    (i - 1 ≤ m) × ((length boxes₁ ≡ length boxes₀) × ((length words₁ ≡ length words₀) × (Started words₁ n m × Filled own boxes₁ words₁ n m (i - 1))))
+    (length boxes₁ ≡ length boxes₀) × ((length words₁ ≡ length words₀) × (Started words₁ n m × Filled own boxes₁ words₁ n m (i - 1)))
 fill_step own boxes boxes₁ boxes₀ words words₁ words₀ n m i b v l h eb ew R Q M F w e f = (
-  omega (arith, h),
+  ap length e ∙ put_length boxes (i - 1) b ∙ eb,
   (
-    ap length e ∙ put_length boxes (i - 1) b ∙ eb,
+    ap length f ∙ simp length-set ew,
     (
-      ap length f ∙ simp length-set ew,
-      (
-        subst (λ (k : List ℕ). Started k n m) (sym f) (started_kept words n (i - 1) v m M),
-        rw (e, f)
-            (filled_more words n (i - 1) v own boxes m b (omega (arith, eb, R, h, l)) (omega (arith, ew, Q, h, l, M.few)) M (omega (arith, l, h)) w
-            (filled_back own boxes words n m i l F)),
-      ),
+      subst (λ (k : List ℕ). Started k n m) (sym f) (started_kept words n (i - 1) v m M),
+      rw (e, f)
+          (filled_more words n (i - 1) v own boxes m b (omega (arith, eb, R, h, l)) (omega (arith, ew, Q, h, l, M.few)) M (omega (arith, l, h)) w
+          (filled_back own boxes words n m i l F)),
     ),
   ),
 )

@@ -2,14 +2,12 @@
 use mathlib.Core.Path.{◌≡◌, refl, sym, ap, ◌∙◌}
 use mathlib.Core.Bool.{Bool, true, false}
 use mathlib.Core.List.{List}
-use mathlib.Core.Logic.{◌⊎◌, inl, inr}
 use Prim.Native.Nat.{ℕ, ◌+◌, ◌≤◌, ◌<◌}
 use native.Mathlib.Omega.{arith}
 use lib.Dec.{eqb}
 use borrow.Author.Tests.{eqb-true, eqb-false}
 use lib.ListN.{length, set, length-set}
 use lib.Seq.{get_or-set_same, get_or-set_other}
-use Rattle.num_float.proofs.Tests.{lt_or_ge}
 use Rattle.solid_boxes.specs.Tree.{at, Order}
 use Rattle.solid_boxes.specs.Work.{swapped, Split}
 
@@ -23,16 +21,6 @@ by_eq a b {A} f g = go (eqb a b) refl
 -- ---- the numbers from 0 on
 pub record Counted (words : List ℕ) (i : ℕ) : Type 0 where
   pub is : (x : ℕ) → x < i → at words x ≡ x
-
-pub numbered_none : (words : List ℕ) → Counted words 0
-numbered_none words = record { is = λ x l. absurd (omega (arith, l)) }
-
-pub numbered_more : (words after : List ℕ) (i : ℕ) → Counted words i → i < length words → after ≡ set words i i → Counted after (i + 1)
-numbered_more words after i C l e = record { is = λ x h. ap (λ (k : List ℕ). at k x) e ∙ go x h (lt_or_ge x i) }
-  where
-    go : (x : ℕ) → x < i + 1 → (x < i) ⊎ (i ≤ x) → at (set words i i) x ≡ x
-    go x h (inl b) = get_or-set_other words i x i 0 (λ z. omega (arith, z, b)) ∙ C.is x b
-    go x h (inr b) = let z : x ≡ i = omega (arith, h, b) in rw z (get_or-set_same words i i 0 l)
 
 pub numbered_all : (words : List ℕ) (i n : ℕ) → i ≤ n → n ≤ i → Counted words i → n ≤ length words → Order words n
 numbered_all words i n a b C l =

@@ -15,6 +15,7 @@ pub struct Bounds {
 }
 
 // Rust's a.min(x), where a is no NaN.
+// Not std's min: it tests for a NaN, which no coordinate is, and is asked for each corner.
 fn lower(a: f64, x: f64) -> f64
     requires { is_nan a ≡ false }
     ensures { result ≡ min_of a x }

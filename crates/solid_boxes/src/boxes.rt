@@ -54,10 +54,8 @@ fn leaf_box(file: &[u8], vertices: usize, words: &[u32], a: usize, e: usize) -> 
     ensures { Covers (λ p. padded (own_box_of (part_of file.now) p)) (at words.now) a e result }
 {
     let mut b = own_box(file, vertices, cell(words, a));
-    let mut x = a + 1;
-    while x < e {
+    for x in a + 1..e {
         b = b.join(own_box(file, vertices, cell(words, x)));
-        x += 1;
     }
     b
 }
@@ -136,9 +134,7 @@ pub fn put_boxes(
     ensures boxes_len_unchanged_2 { length words.new ≡ length words.old }
 {
     let skips = 2 * n + 1;
-    let mut i = m;
-    while i > 0 {
-        i -= 1;
+    for i in (0..m).rev() {
         let made = node_of(file, vertices, &*boxes, &*words, n, m, i);
         put_box(boxes, i, made.bounds);
         put_cell(words, skips + i, made.skip);

@@ -23,10 +23,8 @@ pub fn put_numbers(words: &mut [u32], n: usize)
     ensures fact_1 { Order words.new n }
     ensures fact_2 { length words.new ≡ length words.old }
 {
-    let mut i: usize = 0;
-    while i < n {
+    for i in 0..n {
         put_cell(words, i, i);
-        i += 1;
     }
 }
 
@@ -87,14 +85,14 @@ fn longest(x: Extent, y: Extent, z: Extent) -> Cut
     let dz = z.hi - z.lo;
     if (dx >= dy) & (dx >= dz) {
         let mid = (x.lo + x.hi) * 0.5;
-        return Cut { axis: 0, mid: mid };
+        return Cut { axis: 0, mid };
     }
     if dy >= dz {
         let mid = (y.lo + y.hi) * 0.5;
-        return Cut { axis: 1, mid: mid };
+        return Cut { axis: 1, mid };
     }
     let mid = (z.lo + z.hi) * 0.5;
-    Cut { axis: 2, mid: mid }
+    Cut { axis: 2, mid }
 }
 
 // For the places from x on to before b.
@@ -104,18 +102,18 @@ fn cut_of(keys: &[f64], words: &[u32], n: usize, x: usize, b: usize) -> Cut
     requires fact_3 { b ≤ n }
     ensures { result.axis ≤ 2 }
 {
-    let far = 1.0 / 0.0;
-    let none = Extent { lo: far, hi: -far };
+    let none = Extent {
+        lo: f64::INFINITY,
+        hi: f64::NEG_INFINITY,
+    };
     let mut ex = none;
     let mut ey = none;
     let mut ez = none;
-    let mut i = x;
-    while i < b {
+    for i in x..b {
         let p = cell(words, i);
         ex = ex.with(key_at(keys, 3 * p));
         ey = ey.with(key_at(keys, 3 * p + 1));
         ez = ez.with(key_at(keys, 3 * p + 2));
-        i += 1;
     }
     longest(ex, ey, ez)
 }
@@ -129,19 +127,10 @@ fn settle(l: usize, x: usize, b: usize) -> usize
     ensures fact_1 { x + 2 ≤ result }
     ensures fact_2 { result + 2 ≤ b }
 {
-    if l == x {
+    if (l == x) | (l == b) {
         return x + (b - x) / 2;
     }
-    if l == b {
-        return x + (b - x) / 2;
-    }
-    if l < x + 2 {
-        return x + 2;
-    }
-    if b - 2 < l {
-        return b - 2;
-    }
-    l
+    l.max(x + 2).min(b - 2)
 }
 
 // Splits the places from x on to before b, and says where.
@@ -154,6 +143,7 @@ pub fn split(keys: &[f64], words: &mut [u32], n: usize, x: usize, b: usize) -> u
     let cut = cut_of(keys, &*words, n, x, b);
     let mut l = x;
     let mut r = b;
+    // A while: two places close in on each other, and each turn moves one of them.
     while l < r {
         let p = cell(&*words, l);
         if key_at(keys, 3 * p + cut.axis) < cut.mid {

@@ -18,10 +18,8 @@ pub fn run_box(file: &[u8], first: usize, n: usize) -> Bounds
 {
     let a = corner(file, first);
     let mut b = Bounds { lo: a, hi: a };
-    let mut k: usize = 0;
-    while k < n {
+    for k in 0..n {
         b = b.grow(corner(file, first + k));
-        k += 1;
     }
     b.widen(1e-6).widen(1e-9)
 }

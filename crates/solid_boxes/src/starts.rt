@@ -24,13 +24,11 @@ pub fn put_keys(file: &[u8], vertices: usize, keys: &mut [f64], n: usize)
     requires fact_4 { 3 * n ≤ length keys.old }
     ensures { length keys.new ≡ length keys.old }
 {
-    let mut p: usize = 0;
-    while p < n {
+    for p in 0..n {
         let b = own_box(file, vertices, p);
         put_key(keys, 3 * p, b.lo.x + b.hi.x);
         put_key(keys, 3 * p + 1, b.lo.y + b.hi.y);
         put_key(keys, 3 * p + 2, b.lo.z + b.hi.z);
-        p += 1;
     }
 }
 
@@ -49,6 +47,7 @@ pub fn put_starts(keys: &[f64], words: &mut [u32], n: usize) -> usize
     let mut d: usize = 1;
     let mut m: usize = 0;
     let mut x: usize = 0;
+    // A while: the stack grows and shrinks, until nothing waits.
     while d > 0 {
         let b = cell(&*words, ends + (d - 1));
         m += 1;

@@ -16,18 +16,20 @@ pub struct Segment {
 
 impl Segment {
     // The segment from a to b.
+    #[tactic(auto, unfolding(crate::specs::Work::segment_of))]
     pub fn new(a: Vec3, b: Vec3) -> Segment
         ensures { result ≡ segment_of a b }
     {
         let way = b.sub(a);
         Segment {
             start: a,
-            way: way,
+            way,
             square: way.length_sq(),
         }
     }
 
     // The squared distance of p from it.
+    #[tactic(auto, unfolding(crate::specs::Kept::square_to_of))]
     pub fn square_to(self, p: Vec3) -> f64
         ensures { result ≡ square_to_of p self }
     {
@@ -39,6 +41,7 @@ impl Segment {
 }
 
 // Keeps s in the numbers from `at` on.
+#[tactic(auto, unfolding(crate::specs::Work::put_segment))]
 pub fn put_segment(out: &mut [f64], at: usize, s: Segment)
     requires { at + 7 ≤ length out.old }
     ensures { out.new ≡ put_segment out.old at s }
@@ -53,6 +56,7 @@ pub fn put_segment(out: &mut [f64], at: usize, s: Segment)
 }
 
 // The one that is kept there.
+#[tactic(auto, unfolding(crate::specs::Work::segment_at_of))]
 pub fn segment_at(kept: &[f64], at: usize) -> Segment
     requires { at + 7 ≤ length kept.now }
     ensures { result ≡ segment_at_of kept.now at }

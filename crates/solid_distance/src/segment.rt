@@ -28,6 +28,7 @@ pub fn fraction_along(p: Vec3, a: Vec3, ab: Vec3, square: f64) -> f64
 }
 
 // The point of the segment from a to b that is nearest to p.
+#[tactic(auto, unfolding(crate::specs::Segment::nearest_on))]
 pub fn nearest_on(p: Vec3, a: Vec3, b: Vec3) -> Vec3
     ensures { result ≡ nearest_on p a b }
 {
@@ -36,6 +37,7 @@ pub fn nearest_on(p: Vec3, a: Vec3, b: Vec3) -> Vec3
 }
 
 // The distance of p from the segment from a to b.
+#[tactic(auto, unfolding(crate::specs::Segment::seg_distance))]
 pub fn seg_distance(p: Vec3, a: Vec3, b: Vec3) -> f64
     ensures { result ≡ seg_distance p a b }
 {

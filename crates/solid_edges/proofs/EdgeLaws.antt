@@ -1,12 +1,12 @@
 -- The answers about a side, return by return, and what is known of an edge.
-use mathlib.Core.Path.{◌≡◌, refl, sym, ap, ◌∙◌}
+use mathlib.Core.Path.{◌≡◌, sym, ap, ◌∙◌}
 use mathlib.Core.Bool.{Bool, true, false, not, ◌&&◌, ◌||◌, cond}
 use mathlib.Core.List.{List}
+use Rattle.std.proofs.Common.{Some, None}
 use Prim.Native.Nat.{ℕ, ◌+◌, ◌-◌, ◌≤◌, ◌<◌}
-use native.Mathlib.Numerals.{add-one}
 use native.Mathlib.Omega.{arith}
 use lib.Dec.{eqb, ltb, leb}
-use borrow.Author.Tests.{not-true, not-false, eq-eqb, ne_eqb, ltb-true, leb-true, lt-ltb, le-ltb, le-leb, lt-leb}
+use borrow.Author.Tests.{not-true, eq-eqb, ne_eqb, ltb-true, leb-true, lt-ltb, le-ltb, le-leb, lt-leb}
 use Rattle.num_float.proofs.Tests.{contrary, and_true, and_left, and_right, and_false_left, and_false_right}
 use Rattle.file_part.specs.Layout.{vertex_count_of}
 use Rattle.file_part.specs.Part.{Part, part_of}
@@ -23,44 +23,45 @@ use Rattle.solid_edges.specs.Work.{EdgeIs, leads_to}
 use Rattle.solid_edges.proofs.ScanLaws.{face_below}
 
 -- ---- `edge_at`
-abbrev none : Edge
-none = record { is_edge = false; near = 0; beyond = 0 }
-
-no_edge : (t : Part) (s : ℕ) → is_two t.vertices s (pair_in t s) ≡ false → EdgeIs t s none
-unfolding is_edge_of
-no_edge t s h =
-    record {
-      is = sym (and_false_left (is_two t.vertices s (pair_in t s)) (not (eqb (face_of_side t s) (face_beyond t s))) h);
-      near_is = λ e. absurd (contrary e refl);
-      beyond_is = λ e. absurd (contrary e refl);
-    }
+no_edge : (t : Part) (s : ℕ) → is_two t.vertices s (pair_in t s) ≡ false → EdgeIs t s None
+unfolding EdgeIs is_edge_of
+no_edge t s h = and_false_left (is_two t.vertices s (pair_in t s)) (not (eqb (face_of_side t s) (face_beyond t s))) h
 
 -- one side has the key, or side s is not the first
-pub edge_low : (t : Part) (s q : ℕ) → q ≡ pair_in t s → q ≤ s + 1 → EdgeIs t s none
+pub edge_low : (t : Part) (s q : ℕ) → q ≡ pair_in t s → q ≤ s + 1 → EdgeIs t s None
 unfolding is_two
 edge_low t s q e l =
     no_edge t s (and_false_left (ltb (s + 1) (pair_in t s)) (leb (pair_in t s) t.vertices) (le-ltb (s + 1) (pair_in t s) (omega (arith, e, l))))
 
 -- more than two sides have it
-pub edge_many : (file : List ℕ) (v s q : ℕ) → v ≡ vertex_count_of file → q ≡ pair_in (part_of file) s → v < q → EdgeIs (part_of file) s none
+pub edge_many : (file : List ℕ) (v s q : ℕ) → v ≡ vertex_count_of file → q ≡ pair_in (part_of file) s → v < q → EdgeIs (part_of file) s None
 unfolding is_two
 edge_many file v s q a e l =
     let t = part_of file in
     no_edge t s
     (and_false_right (ltb (s + 1) (pair_in t s)) (leb (pair_in t s) t.vertices) (lt-leb (pair_in t s) t.vertices (omega (arith, a, e, l, part_vertices file))))
 
--- two sides
-pub edge_two : (file : List ℕ) (v s q near beyond : ℕ) → v ≡ vertex_count_of file → q ≡ pair_in (part_of file) s → s + 1 < q → q ≤ v →
-    near ≡ face_of_side (part_of file) s → beyond ≡ face_of_side (part_of file) (q - 1) →
-    EdgeIs (part_of file) s (record { is_edge = not (eqb near beyond); near = near; beyond = beyond })
-unfolding is_edge_of is_two face_beyond
-edge_two file v s q near beyond a e low high n b =
-    let t = part_of file in
-    let two : (ltb (s + 1) (pair_in t s) && leb (pair_in t s) t.vertices) ≡ true
-    = and_true (ltb (s + 1) (pair_in t s)) (leb (pair_in t s) t.vertices) (lt-ltb (s + 1) (pair_in t s) (omega (arith, e, low)))
-    (le-leb (pair_in t s) t.vertices (omega (arith, a, e, high, part_vertices file))) in
-    let far : beyond ≡ face_of_side t (pair_in t s - 1) = b ∙ ap (λ (k : ℕ). face_of_side t (k - 1)) e in
-    record { is = rw (two, ← n, ← far); near_is = λ h. n; beyond_is = λ h. far }
+-- two sides, of one face or of two
+module _ (file : List ℕ) (v s q near beyond : ℕ) (a : v ≡ vertex_count_of file) (e : q ≡ pair_in (part_of file) s) (low : s + 1 < q) (high : q ≤ v)
+    (n : near ≡ face_of_side (part_of file) s) (b : beyond ≡ face_of_side (part_of file) (q - 1)) where
+  two : is_two (part_of file).vertices s (pair_in (part_of file) s) ≡ true
+  unfolding is_two
+  two =
+      let t = part_of file in
+      and_true (ltb (s + 1) (pair_in t s)) (leb (pair_in t s) t.vertices) (lt-ltb (s + 1) (pair_in t s) (omega (arith, e, low)))
+      (le-leb (pair_in t s) t.vertices (omega (arith, a, e, high, part_vertices file)))
+
+  far : beyond ≡ face_beyond (part_of file) s
+  unfolding face_beyond
+  far = b ∙ ap (λ (k : ℕ). face_of_side (part_of file) (k - 1)) e
+
+  pub edge_inside : near ≡ beyond → EdgeIs (part_of file) s None
+  unfolding EdgeIs is_edge_of
+  edge_inside h = rw (two, eq-eqb _ _ (sym n ∙ h ∙ far))
+
+  pub edge_two : (near ≡ beyond → ⊥) → EdgeIs (part_of file) s (Some (record { near = near; beyond = beyond }))
+  unfolding EdgeIs is_edge_of
+  edge_two h = (rw (two, ne_eqb _ _ (λ z. h (n ∙ z ∙ sym far))), n, far)
 
 -- ---- the faces of an edge
 module _ (file : List ℕ) (readable : Readable file) (s : ℕ) (low : s < vertex_count_of file) where
@@ -75,11 +76,13 @@ module _ (file : List ℕ) (readable : Readable file) (s : ℕ) (low : s < verte
       let within = leb-true (pair_in t s) t.vertices (and_right (ltb (s + 1) (pair_in t s)) (leb (pair_in t s) t.vertices) two) in
       face_below file readable (pair_in t s - 1) (omega (arith, above, within, part_vertices file))
 
-  pub near_few : (e : Edge) → EdgeIs t s e → e.is_edge ≡ true → e.near < faces_of t
-  near_few e h is = omega (arith, h.near_is is, face_below file readable s low)
+  pub near_few : (e : Edge) → EdgeIs t s (Some e) → e.near < faces_of t
+  unfolding EdgeIs
+  near_few e h = omega (arith, h.1, face_below file readable s low)
 
-  pub beyond_few : (e : Edge) → EdgeIs t s e → e.is_edge ≡ true → e.beyond < faces_of t
-  beyond_few e h is = omega (arith, h.beyond_is is, beyond_below (sym h.is ∙ is))
+  pub beyond_few : (e : Edge) → EdgeIs t s (Some e) → e.beyond < faces_of t
+  unfolding EdgeIs
+  beyond_few e h = omega (arith, h.2, beyond_below h.0)
 
   pub other_below : (f : ℕ) → is_edge_of_word t f s ≡ true → other_face t f s < faces_of t
   unfolding is_edge_of_word other_face
@@ -91,28 +94,22 @@ module _ (file : List ℕ) (readable : Readable file) (s : ℕ) (low : s < verte
       go false near beyond = near
 
 -- ---- `leads_to`
-module _ (t : Part) (f s : ℕ) (e : Edge) (h : EdgeIs t s e) where
-  pub leads_none : not e.is_edge ≡ true → 0 ≡ leads_to t f s
-  unfolding leads_to is_edge_of_word
-  leads_none n = rw (sym h.is ∙ not-true _ n)
+pub leads_none : (t : Part) (f s : ℕ) → EdgeIs t s None → None ≡ leads_to t f s
+unfolding EdgeIs leads_to is_edge_of_word
+leads_none t f s h = rw h
 
-  pub leads_beyond : not e.is_edge ≡ false → e.near ≡ f → e.beyond + 1 ≡ leads_to t f s
-  unfolding leads_to is_edge_of_word other_face
-  leads_beyond n q =
-      let is = not-false _ n in
-      rw (sym h.is ∙ is, eq-eqb (face_of_side t s) f (sym (h.near_is is) ∙ q), add-one, h.beyond_is is)
+module _ (t : Part) (f s : ℕ) (e : Edge) (h : EdgeIs t s (Some e)) where
+  pub leads_beyond : e.near ≡ f → Some e.beyond ≡ leads_to t f s
+  unfolding EdgeIs leads_to is_edge_of_word other_face
+  leads_beyond q = rw (h.0, eq-eqb (face_of_side t s) f (sym h.1 ∙ q), h.2)
 
-  pub leads_near : not e.is_edge ≡ false → (e.near ≡ f → ⊥) → e.beyond ≡ f → e.near + 1 ≡ leads_to t f s
-  unfolding leads_to is_edge_of_word other_face
-  leads_near n d q =
-      let is = not-false _ n in
-      rw (sym h.is ∙ is, ne_eqb (face_of_side t s) f (λ z. d (h.near_is is ∙ z)), eq-eqb (face_beyond t s) f (sym (h.beyond_is is) ∙ q), add-one, h.near_is is)
+  pub leads_near : (e.near ≡ f → ⊥) → e.beyond ≡ f → Some e.near ≡ leads_to t f s
+  unfolding EdgeIs leads_to is_edge_of_word other_face
+  leads_near d q = rw (h.0, ne_eqb (face_of_side t s) f (λ z. d (h.1 ∙ z)), eq-eqb (face_beyond t s) f (sym h.2 ∙ q), h.1)
 
-  pub leads_past : not e.is_edge ≡ false → (e.near ≡ f → ⊥) → (e.beyond ≡ f → ⊥) → 0 ≡ leads_to t f s
-  unfolding leads_to is_edge_of_word
-  leads_past n d q =
-      let is = not-false _ n in
-      rw (sym h.is ∙ is, ne_eqb (face_of_side t s) f (λ z. d (h.near_is is ∙ z)), ne_eqb (face_beyond t s) f (λ z. q (h.beyond_is is ∙ z)))
+  pub leads_past : (e.near ≡ f → ⊥) → (e.beyond ≡ f → ⊥) → None ≡ leads_to t f s
+  unfolding EdgeIs leads_to is_edge_of_word
+  leads_past d q = rw (h.0, ne_eqb (face_of_side t s) f (λ z. d (h.1 ∙ z)), ne_eqb (face_beyond t s) f (λ z. q (h.2 ∙ z)))
 
 -- ---- what an edge is: a shared segment of sides s and u, of which the faces differ
 pub record BetweenFaces (t : Part) (s u : ℕ) : Type 0 where

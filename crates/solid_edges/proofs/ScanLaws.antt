@@ -98,16 +98,18 @@ module _ {file sides faces : List ℕ} (lent : Lent file sides faces) (s : ℕ) 
   pub end_in : (r : ℕ) → r ≡ get_or sides (s * 3) 0 → r < vertex_count_of file
   end_in r e = omega (arith, end_is r e, end_below file (lent_readable lent) s low)
 
-  owner_in : (p : ℕ) → p ≡ get_or sides (s * 3 + 1) 0 → p < t.polygons
-  owner_in p e = omega (arith, e, lent.shared.owners s side_in, owner_below file (lent_readable lent) s low, part_polygons file)
+  pub owner_is : (p : ℕ) → p ≡ get_or sides (s * 3 + 1) 0 → p ≡ owner_of t s
+  owner_is p e = e ∙ lent.shared.owners s side_in
 
-  pub owner_is : (p : ℕ) → p ≡ get_or sides (s * 3 + 1) 0 → (p ≡ owner_of t s) × (p < polygon_count_of file)
-  owner_is p e = (e ∙ lent.shared.owners s side_in, omega (arith, owner_in p e, part_polygons file))
+  pub owner_in : (p : ℕ) → p ≡ get_or sides (s * 3 + 1) 0 → p < polygon_count_of file
+  owner_in p e = omega (arith, owner_is p e, owner_below file (lent_readable lent) s low)
 
-  pub owner_room : (p : ℕ) → p ≡ get_or sides (s * 3 + 1) 0 → p < length faces
-  owner_room p e = omega (arith, owner_in p e, lent.faced.long)
+  owner_known : (p : ℕ) → p ≡ owner_of t s → p < t.polygons
+  owner_known p e = omega (arith, e, owner_below file (lent_readable lent) s low, part_polygons file)
 
-  pub face_is : (p r : ℕ) → p ≡ get_or sides (s * 3 + 1) 0 → r ≡ get_or faces p 0 → r ≡ face_of_side t s
+  pub owner_room : (p : ℕ) → p ≡ owner_of t s → p < length faces
+  owner_room p e = omega (arith, owner_known p e, lent.faced.long)
+
+  pub face_is : (p r : ℕ) → p ≡ owner_of t s → r ≡ get_or faces p 0 → r ≡ face_of_side t s
   unfolding face_of_side
-  face_is p r e q =
-      q ∙ lent.faced.known.numbers.each p (owner_in p e) ∙ ap (face_number t) (e ∙ lent.shared.owners s side_in)
+  face_is p r e q = q ∙ lent.faced.known.numbers.each p (owner_known p e) ∙ ap (face_number t) e

@@ -1,5 +1,5 @@
 -- What private functions leave on the way; a reader may pass over it. Definitions only.
-use Rattle.std.specs.Prelude.{◌≡◌, true, cond, List, ℕ, suc, zero, Float, eqb}
+use Rattle.std.specs.Prelude.{◌≡◌, true, false, cond, Option, Some, None, List, ℕ, suc, zero, Float, eqb}
 use Rattle.math.specs.declared.Vec3.{Vec3}
 use Rattle.math.specs.Vector.{minus, length_sq_of}
 use Rattle.file_part.specs.Part.{Part, part_of}
@@ -12,14 +12,13 @@ use Rattle.solid_edges.specs.Neighbours.{next_neighbour}
 
 -- ---- what the code answers of a side
 -- whether it is an edge, and then its own face and the face beyond
-pub record EdgeIs (t : Part) (s : ℕ) (e : Edge) : Type 0 where
-  pub is : e.is_edge ≡ is_edge_of t s
-  pub near_is : e.is_edge ≡ true → e.near ≡ face_of_side t s
-  pub beyond_is : e.is_edge ≡ true → e.beyond ≡ face_beyond t s
+unfoldable pub EdgeIs : Part → ℕ → Option Edge → Type 0
+EdgeIs t s (Some e) = (is_edge_of t s ≡ true) × (e.near ≡ face_of_side t s) × (e.beyond ≡ face_beyond t s)
+EdgeIs t s None = is_edge_of t s ≡ false
 
--- the face that it leads to from face f: 0 is none, and g + 1 is face g
-unfoldable pub leads_to : Part → ℕ → ℕ → ℕ
-leads_to t f s = cond (is_edge_of_word t f s) (suc (other_face t f s)) 0
+-- the face that it leads to from face f, if any
+unfoldable pub leads_to : Part → ℕ → ℕ → Option ℕ
+leads_to t f s = cond (is_edge_of_word t f s) (Some (other_face t f s)) None
 
 -- ---- beside Distance.antt
 -- the square of the distance of point p from the segment of side s

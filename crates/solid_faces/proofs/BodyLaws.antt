@@ -13,12 +13,14 @@ use Rattle.num_float.proofs.Tests.{contrary}
 use Rattle.list_laws.specs.Below.{all_below, sum_below}
 use Rattle.list_laws.proofs.Below.{all_none, all_more, all_each, all_fails}
 use Rattle.solid_polygon.specs.file_part.specs.declared.read.FaceId.{FaceId}
-use Rattle.file_ok.specs.declared.verdict.Verdict.{Verdict}
-use Rattle.file_ok.specs.declared.verdict.Verdict.TheVariants.{Accepted, TooShort, WrongEdition, TooLarge, WrongLength, BadJob, BadVertex, BadPolygon, FlatPolygon, TooManyFaces}
+use Rattle.std.specs.Prelude.{⊤, Result, Ok, Err}
+use Rattle.std.specs.Result.{result_and}
+use Rattle.refusal.specs.declared.Refusal.{Refusal}
+use Rattle.refusal.specs.declared.Refusal.TheVariants.{FlatPolygon, TooManyFaces}
 use Rattle.solid_polygon.specs.file_part.specs.Layout.{vertex_count_of, polygon_count_of, entry_at}
 use Rattle.solid_polygon.specs.file_part.specs.Part.{Part, face_at, first_at, count_at_of, polygon_at, part_of}
 use Rattle.file_ok.specs.Rules.{run_start}
-use Rattle.file_ok.specs.Verdict.{number, verdict_of}
+use Rattle.file_ok.specs.Verdict.{verdict_of}
 use Rattle.file_ok.specs.Work.{Readable}
 use Rattle.solid_polygon.specs.file_part.proofs.PartLaws.{part_polygons}
 use Rattle.file_ok.proofs.ReadableLaws.{readable_length, readable_counts, readable_run, readable_whole, readable_vertex, readable_index}
@@ -129,40 +131,13 @@ unfolding some_flat
 flat_all t p P same a b h = sym (ap not (subst (NoneFlat t) (le_antisymm a b ∙ same) h))
 
 -- ---- the verdict, return by return
-pub accepted : (x : Verdict) → number x ≡ 0 → x ≡ Accepted
-unfolding number
-accepted Accepted h = refl
-accepted TooShort h = absurd (omega (arith, h))
-accepted WrongEdition h = absurd (omega (arith, h))
-accepted TooLarge h = absurd (omega (arith, h))
-accepted WrongLength h = absurd (omega (arith, h))
-accepted BadJob h = absurd (omega (arith, h))
-accepted BadVertex h = absurd (omega (arith, h))
-accepted BadPolygon h = absurd (omega (arith, h))
-accepted FlatPolygon h = absurd (omega (arith, h))
-accepted TooManyFaces h = absurd (omega (arith, h))
-
-pub is_readable : (s : List ℕ) (x : Verdict) (r : ℕ) → x ≡ verdict_of s → r ≡ number x → r ≡ 0 → Readable s
-unfolding Readable
-is_readable s x r e n h = sym e ∙ accepted x (sym n ∙ h)
-
-pub is_checked : (s : List ℕ) (x : Verdict) (r : ℕ) → x ≡ body_verdict s → r ≡ number x → r ≡ 0 → Checked s
-unfolding Checked
-is_checked s x r e n h = sym e ∙ accepted x (sym n ∙ h)
-
-pub body_refused : (s : List ℕ) (x : Verdict) (r : ℕ) → x ≡ verdict_of s → r ≡ number x → (r ≡ 0 → ⊥) → x ≡ body_verdict s
+pub body_refused : (s : List ℕ) (r : Refusal) → verdict_of s ≡ Err r → Err r ≡ body_verdict s
 unfolding body_verdict
-body_refused s x r e n h =
-    let other : eqb (number (verdict_of s)) 0 ≡ false = ne_eqb _ _ (λ z. h (n ∙ ap number e ∙ z)) in
-    rw (other, e)
+body_refused s r e = rw e
 
-readable_zero : (s : List ℕ) → Readable s → eqb (number (verdict_of s)) 0 ≡ true
-unfolding Readable number
-readable_zero s h = eq-eqb _ _ (ap number h)
-
-pub body_flat : (s : List ℕ) (b : Bool) → Readable s → b ≡ some_flat (part_of s) → b ≡ true → FlatPolygon ≡ body_verdict s
-unfolding body_verdict
-body_flat s b h e t = rw (readable_zero s h, ← e, t)
+pub body_flat : (s : List ℕ) (b : Bool) → Readable s → b ≡ some_flat (part_of s) → b ≡ true → Err FlatPolygon ≡ body_verdict s
+unfolding body_verdict Readable
+body_flat s b h e t = rw (h, ← e, t)
 
 many : (n m : ℕ) → leb n m ≡ false → ltb m n ≡ true
 many n m h = lt-ltb _ _ (leb-false n m h)
@@ -171,34 +146,30 @@ few : (n m : ℕ) → leb n m ≡ true → ltb m n ≡ false
 few n m h = le-ltb _ _ (leb-true n m h)
 
 pub body_many : (s : List ℕ) (b few : Bool) → Readable s → b ≡ some_flat (part_of s) → b ≡ false → few ≡ leb (faces_of (part_of s)) 1024 → not few ≡ true →
-    TooManyFaces ≡ body_verdict s
-unfolding body_verdict too_many_faces_of
-body_many s b k h e f q t = rw (readable_zero s h, ← e, f, many (faces_of (part_of s)) 1024 (sym q ∙ not-true k t))
+    Err TooManyFaces ≡ body_verdict s
+unfolding body_verdict Readable too_many_faces_of
+body_many s b k h e f q t = rw (h, ← e, f, many (faces_of (part_of s)) 1024 (sym q ∙ not-true k t))
 
 pub body_accepted : (s : List ℕ) (b few : Bool) → Readable s → b ≡ some_flat (part_of s) → b ≡ false → few ≡ leb (faces_of (part_of s)) 1024 → not few ≡ false →
-    Accepted ≡ body_verdict s
-unfolding body_verdict too_many_faces_of
-body_accepted s b k h e f q t = rw (readable_zero s h, ← e, f, few (faces_of (part_of s)) 1024 (sym q ∙ not-false k t))
+    Ok tt ≡ body_verdict s
+unfolding body_verdict Readable too_many_faces_of
+body_accepted s b k h e f q t = rw (h, ← e, f, few (faces_of (part_of s)) 1024 (sym q ∙ not-false k t))
 
 -- ---- what acceptance says
--- a refusal's number is not 0
-split : (readable flat many : Bool) (x : Verdict) → (readable ≡ false → number x ≡ 0 → ⊥) →
-    cond readable (cond flat FlatPolygon (cond many TooManyFaces Accepted)) x ≡ Accepted → (readable ≡ true) × (flat ≡ false) × (many ≡ false)
-unfolding number
-split true true many x other h = absurd (omega (arith, ap number h))
-split true false true x other h = absurd (omega (arith, ap number h))
-split true false false x other h = (refl, refl, refl)
-split false flat many x other h = absurd (other refl (ap number h))
+split : (v : Result ⊤ Refusal) (flat many : Bool) → result_and {U = ⊤} v (cond flat (Err FlatPolygon) (cond many (Err TooManyFaces) (Ok tt))) ≡ Ok tt →
+    (v ≡ Ok tt) × (flat ≡ false) × (many ≡ false)
+split (Ok u) true many h = (cc)
+split (Ok u) false true h = (cc)
+split (Ok u) false false h = (refl, refl, refl)
+split (Err r) flat many h = (cc)
 
-checked : (s : List ℕ) → Checked s → (eqb (number (verdict_of s)) 0 ≡ true) × (some_flat (part_of s) ≡ false) × (too_many_faces_of (part_of s) ≡ false)
+checked : (s : List ℕ) → Checked s → (verdict_of s ≡ Ok tt) × (some_flat (part_of s) ≡ false) × (too_many_faces_of (part_of s) ≡ false)
 unfolding Checked body_verdict
-checked s h =
-    split (eqb (number (verdict_of s)) 0) (some_flat (part_of s)) (too_many_faces_of (part_of s)) (verdict_of s)
-    (λ e z. contrary (eq-eqb _ _ z) e) h
+checked s h = split (verdict_of s) (some_flat (part_of s)) (too_many_faces_of (part_of s)) h
 
 pub checked_readable : (s : List ℕ) → Checked s → Readable s
 unfolding Readable
-checked_readable s h = accepted (verdict_of s) (eqb-true _ _ (checked s h).0)
+checked_readable s h = (checked s h).0
 
 pub checked_faces : (s : List ℕ) → Checked s → faces_of (part_of s) ≤ 1024
 unfolding too_many_faces_of

@@ -23,9 +23,6 @@ use Rattle.solid_faces.specs.Kept.{KeptAreas, FaceAreas, plane_at_of, KeptPlanes
 use Rattle.solid_faces.specs.Work.{AreasTo, put_plane}
 
 -- ---- the area of each polygon
-pub areas_none : (t : Part) (l : List Float) → KeptAreas t 0 l
-areas_none t l = record { each = λ q low. absurd (omega (arith, low)); long = omega arith }
-
 pub areas_more : (t : Part) (p : ℕ) (l : List Float) (x : Float) → p < length l → x ≡ polygon_area t p → KeptAreas t p l → KeptAreas t (p + 1) (set l p x)
 areas_more t p l x room e h = record { each = λ q low. go q low (lt_or_ge q p); long = omega (arith, room, length-set l p x) }
   where
@@ -34,9 +31,6 @@ areas_more t p l x room e h = record { each = λ q low. go q low (lt_or_ge q p);
     go q low (inr above) =
         let here : p ≡ q = omega (arith, low, above) in
         subst (λ (k : ℕ). get_or (set l p x) k nan ≡ polygon_area t k) here (get_or-set_same l p x nan room ∙ e)
-
-pub areas_all : (t : Part) (p P : ℕ) (l : List Float) → p ≤ P → P ≤ p → KeptAreas t p l → KeptAreas t P l
-areas_all t p P l a b h = subst (λ (k : ℕ). KeptAreas t k l) (le_antisymm a b) h
 
 -- ---- the area of each face
 -- cells of 0.0 hold the sums of no areas
@@ -103,15 +97,10 @@ module _ (l : List Float) (p : ℕ) (x : Plane) where
       let first : get_or (stores l (4 * p) 0 numbers) (4 * p) nan ≡ x.normal.x = ap (λ (k : ℕ). get_or (stores l (4 * p) 0 numbers) k nan) (omega arith) ∙ o 0 (lit< tt) in
       rw (put_run, first, o 1 (lit< tt), o 2 (lit< tt), o 3 (lit< tt))
 
-pub planes_none : (t : Part) (l : List Float) → KeptPlanes t 0 l
-planes_none t l = record { each = λ q low. absurd (omega (arith, low)); long = omega arith }
-
 pub planes_more : (t : Part) (p : ℕ) (l l' : List Float) (x : Plane) → 4 * p + 4 ≤ length l → x ≡ polygon_plane t p → l' ≡ put_plane l p x → KeptPlanes t p l →
-    KeptPlanes t (p + 1) l' × (length l' ≡ length l)
-planes_more t p l l' x room e put h = (
-  record { each = λ q low. ap (λ (k : List Float). plane_at_of k q) put ∙ go q low (lt_or_ge q p); long = omega (arith, room, same) },
-  same,
-)
+    KeptPlanes t (p + 1) l'
+planes_more t p l l' x room e put h =
+    record { each = λ q low. ap (λ (k : List Float). plane_at_of k q) put ∙ go q low (lt_or_ge q p); long = omega (arith, room, same) }
   where
     same : length l' ≡ length l
     same = ap length put ∙ put_length l p x
@@ -121,6 +110,3 @@ planes_more t p l l' x room e put h = (
     go q low (inr above) =
         let here : p ≡ q = omega (arith, low, above) in
         subst (λ (k : ℕ). plane_at_of (put_plane l p x) k ≡ polygon_plane t k) here (put_same l p x room ∙ e)
-
-pub planes_all : (t : Part) (p P : ℕ) (l : List Float) → p ≤ P → P ≤ p → KeptPlanes t p l → KeptPlanes t P l
-planes_all t p P l a b h = subst (λ (k : ℕ). KeptPlanes t k l) (le_antisymm a b) h

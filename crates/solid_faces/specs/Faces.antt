@@ -1,16 +1,17 @@
 -- The faces of a part, the area and the plane of its polygons, and refusals 8 and 9. Definitions only.
 -- Faces are numbered in the order of their first polygons, as dfm.rs's `Part::new` finds them. "A face's surface is that of its first polygon".
-use Rattle.std.specs.Prelude.{◌≡◌, Bool, not, ◌&&◌, cond, List, ℕ, zero, suc, ◌+◌, eqb, ltb, leb, Float}
+use Rattle.std.specs.Prelude.{◌≡◌, ⊤, Bool, not, ◌&&◌, cond, List, ℕ, zero, suc, ◌+◌, eqb, ltb, leb, Float, Result, Ok, Err}
 use Rattle.std.specs.Float.{binary64}
 use Rattle.std.specs.Float.Ieee.{add}
+use Rattle.std.specs.Result.{result_and}
+use Rattle.refusal.specs.declared.Refusal.{Refusal}
+use Rattle.refusal.specs.declared.Refusal.TheVariants.{FlatPolygon, TooManyFaces}
 use Rattle.list_laws.specs.Below.{all_below, count_below, lowest_below}
 use Rattle.math.specs.declared.Vec3.{Vec3}
 use Rattle.math.specs.Vector as vector
 use Rattle.solid_polygon.specs.file_part.specs.declared.read.FaceId.{FaceId}
-use Rattle.file_ok.specs.declared.verdict.Verdict.{Verdict}
-use Rattle.file_ok.specs.declared.verdict.Verdict.TheVariants.{Accepted, FlatPolygon, TooManyFaces}
 use Rattle.solid_polygon.specs.file_part.specs.Part.{Part, part_of}
-use Rattle.file_ok.specs.Verdict.{number, verdict_of}
+use Rattle.file_ok.specs.Verdict.{verdict_of}
 use Rattle.solid_polygon.specs.declared.polygon.Plane.{Plane}
 use Rattle.solid_polygon.specs.Polygon.{area_of_word}
 use Rattle.solid_polygon.specs.Plane.{is_flat, plane_of}
@@ -83,12 +84,9 @@ unfoldable pub too_many_faces_of : Part → Bool
 too_many_faces_of t = ltb 1024 (faces_of t)
 
 -- "Tested by rising number": 1 to 7, "then 8" over all polygons, then 9
-unfoldable pub body_verdict : List ℕ → Verdict
-body_verdict s =
-    cond (eqb (number (verdict_of s)) 0)
-    (cond (some_flat (part_of s)) FlatPolygon (cond (too_many_faces_of (part_of s)) TooManyFaces Accepted))
-    (verdict_of s)
+unfoldable pub body_verdict : List ℕ → Result ⊤ Refusal
+body_verdict s = result_and (verdict_of s) (cond (some_flat (part_of s)) (Err FlatPolygon) (cond (too_many_faces_of (part_of s)) (Err TooManyFaces) (Ok tt)))
 
 -- a file that none of 1 to 9 turns back: what every later stage requires
 unfoldable pub Checked : List ℕ → Type 0
-Checked s = body_verdict s ≡ Accepted
+Checked s = body_verdict s ≡ Ok tt

@@ -22,11 +22,9 @@ pub fn put_areas(file: &[u8], areas: &mut [f64])
 {
     let vertices = vertex_count(file);
     let polygons = polygon_count(file);
-    let mut p: usize = 0;
-    while p < polygons {
+    for p in 0..polygons {
         let entry = entry_at(vertices, p);
         areas[p] = poly_area(file, first_vertex(file, entry), run_length(file, entry));
-        p += 1;
     }
 }
 
@@ -35,7 +33,7 @@ pub fn add_area(out: &mut [f64], f: usize, area: f64)
     requires { f < length out.old }
     ensures { out.new ≡ set out.old f (add binary64 (get_or out.old f nan) area) }
 {
-    out[f] = out[f] + area;
+    out[f] += area;
 }
 
 fn put_plane(planes: &mut [f64], p: usize, plane: Plane)
@@ -58,14 +56,12 @@ pub fn put_planes(file: &[u8], planes: &mut [f64])
 {
     let vertices = vertex_count(file);
     let polygons = polygon_count(file);
-    let mut p: usize = 0;
-    while p < polygons {
+    for p in 0..polygons {
         let at = entry_at(vertices, p);
         put_plane(
             planes,
             p,
             Plane::new(file, first_vertex(file, at), run_length(file, at)),
         );
-        p += 1;
     }
 }

@@ -19,12 +19,6 @@ const LINKS: usize = 2048;
 // And from here on the first polygon of each face.
 const FIRSTS: usize = 3072;
 
-pub fn same_face(a: FaceId, b: FaceId) -> bool
-    ensures { result ≡ same_face a b }
-{
-    (a.feature == b.feature) & (a.index == b.index)
-}
-
 // The face of polygon p.
 fn face_of(file: &[u8], p: usize) -> FaceId
     requires fact_1 { Readable file.now }
@@ -35,24 +29,27 @@ fn face_of(file: &[u8], p: usize) -> FaceId
 }
 
 // Whether polygons p and q are of one face.
+#[tactic(auto, unfolding(crate::specs::Faces::same_face))]
 fn of_one_face(file: &[u8], q: usize, p: usize) -> bool
     requires fact_1 { Readable file.now }
     requires fact_2 { q < polygon_count_of file.now }
     requires fact_3 { p < polygon_count_of file.now }
     ensures { result ≡ same_face ((part_of file.now).polygon q).face ((part_of file.now).polygon p).face }
 {
-    same_face(face_of(file, q), face_of(file, p))
+    face_of(file, q) == face_of(file, p)
 }
 
 // The slot of a face's id. A file whose ids all have one slot is only slower.
+#[tactic(auto, unfolding(crate::specs::Work::id_slot))]
 fn slot_of(id: FaceId) -> usize
     ensures { (result ≡ id_slot id) × (result < 2048) }
 {
-    let mixed = (id.feature as u64) * 73856093 + (id.index as u64) * 83492791;
+    let mixed = u64::from(id.feature) * 73856093 + u64::from(id.index) * 83492791;
     ((mixed / 65536) as usize) % 2048
 }
 
 // The number of polygon p's face, by the chain of its slot: that of the face there which has its id, or the next number where none has.
+// A number, not an Option: where none is found, it is that of the face which begins there.
 fn find_face(file: &[u8], table: &[u32], count: usize, p: usize) -> usize
     requires fact_1 { Readable file.now }
     requires fact_2 { p < polygon_count_of file.now }
@@ -60,6 +57,7 @@ fn find_face(file: &[u8], table: &[u32], count: usize, p: usize) -> usize
     ensures { result ≡ face_number (part_of file.now) p }
 {
     let mut t = table[slot_of(face_of(file, p))] as usize;
+    // A while: the chain of links in the slot is followed to its end.
     while t > 0 {
         let f = t - 1;
         if of_one_face(file, table[FIRSTS + f] as usize, p) {
@@ -77,10 +75,8 @@ fn face_number(file: &[u8], table: &[u32], count: usize, p: usize, last: usize) 
     requires fact_3 { Table (part_of file.now) p count table.now }
     ensures { result ≡ face_number (part_of file.now) p }
 {
-    if last < count {
-        if of_one_face(file, table[FIRSTS + last] as usize, p) {
-            return last;
-        }
+    if last < count && of_one_face(file, table[FIRSTS + last] as usize, p) {
+        return last;
     }
     find_face(file, table, count, p)
 }
@@ -128,14 +124,12 @@ pub fn few_faces(file: &[u8]) -> bool
     let mut table = [0u32; 4096];
     let mut count: usize = 0;
     let mut last: usize = 0;
-    let mut p: usize = 0;
-    while p < polygons {
+    for p in 0..polygons {
         last = face_number(file, &table, count, p, last);
         if last == MOST {
             return false;
         }
         count = link(file, &mut table, count, last, p);
-        p += 1;
     }
     true
 }
@@ -152,13 +146,11 @@ pub fn faces(file: &[u8], mem: &mut [u32]) -> usize
     let mut table = [0u32; 4096];
     let mut count: usize = 0;
     let mut last: usize = 0;
-    let mut p: usize = 0;
-    while p < polygons {
+    for p in 0..polygons {
         last = face_number(file, &table, count, p, last);
         mem[p] = last as u32;
         note(mem, polygons, count, last, p);
         count = link(file, &mut table, count, last, p);
-        p += 1;
     }
     count
 }

@@ -5,8 +5,7 @@ ghost use Rattle.file_ok.specs.Work.{Readable};
 ghost use Rattle.solid_faces.specs.Faces.{some_flat, body_verdict};
 
 use crate::faces::few_faces;
-use file_ok::verdict::Verdict;
-use refusal::ACCEPTED;
+use refusal::Refusal;
 use solid_polygon::file_part::read::{
     entry_at, first_vertex, polygon_count, run_length, vertex_count,
 };
@@ -19,30 +18,25 @@ fn any_flat(file: &[u8]) -> bool
 {
     let vertices = vertex_count(file);
     let polygons = polygon_count(file);
-    let mut p: usize = 0;
-    while p < polygons {
+    for p in 0..polygons {
         let at = entry_at(vertices, p);
         if is_flat(file, first_vertex(file, at), run_length(file, at)) {
             return true;
         }
-        p += 1;
     }
     false
 }
 
 // The lowest refusal from 1 to 9 that a file meets.
-pub fn judge(file: &[u8]) -> Verdict
+pub fn judge(file: &[u8]) -> Result<(), Refusal>
     ensures { result ≡ body_verdict file.now }
 {
-    let verdict = file_ok::verdict::judge(file);
-    if verdict.refusal() != ACCEPTED {
-        return verdict;
-    }
+    file_ok::verdict::judge(file)?;
     if any_flat(file) {
-        return Verdict::FlatPolygon;
+        return Err(Refusal::FlatPolygon);
     }
     if !few_faces(file) {
-        return Verdict::TooManyFaces;
+        return Err(Refusal::TooManyFaces);
     }
-    Verdict::Accepted
+    Ok(())
 }

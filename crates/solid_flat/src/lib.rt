@@ -16,10 +16,7 @@ use wall_ray::strike::plane_at;
 pub fn is_plane(surface: SurfaceKind) -> bool
     ensures { result ≡ is_plane surface }
 {
-    match surface {
-        SurfaceKind::Plane => true,
-        _ => false,
-    }
+    matches!(surface, SurfaceKind::Plane)
 }
 
 // Whether face f is flat, by the surface of its first polygon.

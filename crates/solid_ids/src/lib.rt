@@ -4,18 +4,11 @@
 ghost use Rattle.std.specs.Prelude.{◌≡◌, ◌<◌};
 ghost use Rattle.file_part.specs.Part.{part_of};
 ghost use Rattle.solid_faces.specs.Faces.{faces_of};
-ghost use Rattle.solid_ids.specs.Ids.{id_before, id_of, face_before};
+ghost use Rattle.solid_ids.specs.Ids.{id_of, face_before};
 ghost use Rattle.solid_ids.specs.Work.{KnownFaces};
 
 use file_part::read::{FaceId, entry_at, face_id, polygon_count, vertex_count};
 use list_cells::cell;
-
-// Whether id a is lower: by feature, then by index.
-pub fn id_before(a: FaceId, b: FaceId) -> bool
-    ensures { result ≡ id_before a b }
-{
-    (a.feature < b.feature) | ((a.feature == b.feature) & (a.index < b.index))
-}
 
 // The id of face g, from the entry of its first polygon.
 pub fn id_of(file: &[u8], faces: &[u32], g: usize) -> FaceId
@@ -29,11 +22,12 @@ pub fn id_of(file: &[u8], faces: &[u32], g: usize) -> FaceId
 }
 
 // Whether face g has a lower id than face h.
+#[tactic(auto, unfolding(crate::specs::Ids::face_before, crate::specs::Ids::id_before))]
 pub fn face_before(file: &[u8], faces: &[u32], g: usize, h: usize) -> bool
     requires fact_1 { KnownFaces file.now faces.now }
     requires fact_2 { g < faces_of (part_of file.now) }
     requires fact_3 { h < faces_of (part_of file.now) }
     ensures { result ≡ face_before (part_of file.now) g h }
 {
-    id_before(id_of(file, faces, g), id_of(file, faces, h))
+    id_of(file, faces, g) < id_of(file, faces, h)
 }

@@ -139,6 +139,3 @@ module _ {old mem : List ℕ} {n s h : ℕ} (at : Slotted old mem n s h) where
               (put6.there ∙ found ∙ ap (λ (f : ℕ → ℕ → Bool). above (λ u. f u s) s) (side_cells_kept old mem w.kept))
               (λ k l. put6.else k (λ g. omega arith));
         }
-
-pub linked_all : (old mem : List ℕ) (n i : ℕ) → i ≡ n → Linked old mem n i → Before (side_cells old) (col mem 6) n
-linked_all old mem n i e w = subst (λ (k : ℕ). Before (side_cells old) (col mem 6) k) e w.prev

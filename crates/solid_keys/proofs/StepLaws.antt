@@ -5,7 +5,7 @@ use mathlib.Core.List.{List}
 use Prim.Native.Nat.{ℕ, suc, ◌+◌, ◌-◌, ◌*◌, ◌<◌, ◌≤◌}
 use native.Mathlib.Omega.{arith}
 use lib.Dec.{eqb}
-use lib.ListN.{set, length-set}
+use lib.ListN.{length, set, length-set}
 use Rattle.solid_keys.specs.Pair.{above}
 use Rattle.solid_keys.specs.Work.{col, live_cells, side_cells, Sides, Kept, Before, Out, Step}
 use Rattle.solid_keys.proofs.CellLaws.{put_cell, kept_none, kept_set}
@@ -25,6 +25,9 @@ pub record Turn (mem : List ℕ) (n s : ℕ) : Type 0 where
   pub inside : s < n
   pub before : Before (side_cells mem) (col mem 6) n
   pub out : Out (side_cells mem) (n + 1) s (col mem 7)
+
+pub turn_of : {mem : List ℕ} {n s : ℕ} → Sides mem n → s < n → Before (side_cells mem) (col mem 6) n → Out (side_cells mem) (n + 1) s (col mem 7) → Turn mem n s
+turn_of sides inside before out = record { sides = sides; inside = inside; before = before; out = out }
 
 module _ {mem : List ℕ} {n s : ℕ} (turn : Turn mem n s) where
   abbrev before : Before (side_cells mem) (col mem 6) n
@@ -62,6 +65,9 @@ module _ {mem : List ℕ} {n s : ℕ} (turn : Turn mem n s) where
     u_inside : p - 1 < n
     u_inside = lower p s n some before_low turn.inside
 
+    pub u_room : (p - 1) * 8 + 8 ≤ length mem
+    u_room = omega (arith, turn.sides.room, u_inside)
+
     -- it is the only side below s that has the key
     pub two_step : (q : ℕ) → q ≡ col mem 6 (p - 1) → q ≡ 0 → Step mem (twice (p - 1) (s + 1)) n s
     two_step q at none =
@@ -81,6 +87,9 @@ module _ {mem : List ℕ} {n s : ℕ} (turn : Turn mem n s) where
 
       w_inside : q - 1 < n
       w_inside = lower q (p - 1) n other second_low u_inside
+
+      pub w_room : (q - 1) * 8 + 8 ≤ length mem
+      w_room = omega (arith, turn.sides.room, w_inside)
 
       second : above (λ v. side_cells mem v (p - 1)) (p - 1) ≡ suc (q - 1)
       second = before_is (side_cells mem) (col mem 6) n before (p - 1) q u_inside at ∙ positive q other

@@ -3,21 +3,8 @@ ghost use Rattle.std.specs.Prelude.{◌≡◌, cond, ℕ, ◌+◌, ◌*◌, ◌<
 ghost use Rattle.solid_keys.specs.Pair.{above, both_ends, same_pair};
 ghost use Rattle.solid_keys.specs.Work.{col, same_cells, live_cells, side_cells, Sides, Kept, mix, slot, Next, Before, Out, Step, Paired};
 
-// A u32 as a u64.
-fn wide(x: u32) -> u64
-    ensures { (result ≡ x) × (result < 4294967296) }
-{
-    x as u64
-}
-
-// A u32 as an index.
-fn index(x: u32) -> usize
-    ensures { result ≡ x }
-{
-    x as usize
-}
-
 // Vertices a and b have one key.
+#[tactic(auto, unfolding(crate::specs::Work::same_cells))]
 fn same_end(mem: &[u32], a: usize, b: usize) -> bool
     requires { (a * 8 + 8 ≤ length mem.now) × (b * 8 + 8 ≤ length mem.now) }
     ensures { result ≡ same_cells mem.now a b }
@@ -28,76 +15,76 @@ fn same_end(mem: &[u32], a: usize, b: usize) -> bool
 }
 
 // The ends a, b have the keys of c, d, in this order.
+#[tactic(auto, unfolding(crate::specs::Pair::both_ends))]
 fn both_ends(mem: &[u32], a: usize, b: usize, c: usize, d: usize) -> bool
     requires a_in_bounds { (a * 8 + 8 ≤ length mem.now) × (b * 8 + 8 ≤ length mem.now) }
     requires c_in_bounds { (c * 8 + 8 ≤ length mem.now) × (d * 8 + 8 ≤ length mem.now) }
     ensures { result ≡ both_ends (same_cells mem.now) a b c d }
 {
-    if same_end(mem, a, c) {
-        return same_end(mem, b, d);
-    }
-    false
+    same_end(mem, a, c) && same_end(mem, b, d)
 }
 
 // The same in either order.
+#[tactic(auto, unfolding(crate::specs::Pair::same_pair))]
 fn same_pair(mem: &[u32], a: usize, b: usize, c: usize, d: usize) -> bool
     requires a_in_bounds { (a * 8 + 8 ≤ length mem.now) × (b * 8 + 8 ≤ length mem.now) }
     requires c_in_bounds { (c * 8 + 8 ≤ length mem.now) × (d * 8 + 8 ≤ length mem.now) }
     ensures { result ≡ same_pair (same_cells mem.now) a b c d }
 {
-    if both_ends(mem, a, b, c, d) {
-        return true;
-    }
-    both_ends(mem, a, b, d, c)
+    both_ends(mem, a, b, c, d) || both_ends(mem, a, b, d, c)
 }
 
 // The two end keys of side s differ.
+#[tactic(auto, unfolding(crate::specs::Work::live_cells, crate::specs::Pair::is_live))]
 fn is_live(mem: &[u32], n: usize, s: usize) -> bool
     requires fact_1 { Sides mem.now n }
     requires fact_2 { s < n }
     ensures { result ≡ live_cells mem.now s }
 {
-    let to = index(mem[s * 8 + 3]);
+    let to = mem[s * 8 + 3] as usize;
     !same_end(mem, s, to)
 }
 
 // Side u has the key of side s.
+#[tactic(auto, unfolding(crate::specs::Work::side_cells, crate::specs::Work::live_cells, crate::specs::Pair::side_key))]
 fn same_side(mem: &[u32], n: usize, u: usize, s: usize) -> bool
     requires fact_1 { Sides mem.now n }
     requires fact_2 { u < n }
     requires fact_3 { s < n }
     ensures { result ≡ side_cells mem.now u s }
 {
-    let a = index(mem[u * 8 + 3]);
-    let b = index(mem[s * 8 + 3]);
-    if !is_live(mem, n, s) {
-        return false;
-    }
-    same_pair(mem, u, a, s, b)
+    let a = mem[u * 8 + 3] as usize;
+    let b = mem[s * 8 + 3] as usize;
+    is_live(mem, n, s) && same_pair(mem, u, a, s, b)
 }
 
 // A number made of the key of vertex v.
+#[tactic(auto, unfolding(crate::specs::Work::mix))]
 fn mix_of(mem: &[u32], v: usize) -> u64
     requires { v * 8 + 8 ≤ length mem.now }
     ensures { (result ≡ mix mem.now v) × (result < 1152921504606846976) }
 {
     let p = v * 8;
-    wide(mem[p + 0]) * 73856093 + wide(mem[p + 1]) * 19349663 + wide(mem[p + 2]) * 83492791
+    u64::from(mem[p + 0]) * 73856093
+        + u64::from(mem[p + 1]) * 19349663
+        + u64::from(mem[p + 2]) * 83492791
 }
 
 // The slot of side s.
+#[tactic(auto, unfolding(crate::specs::Work::slot))]
 fn slot_of(mem: &[u32], n: usize, s: usize) -> usize
     requires fact_1 { Sides mem.now n }
     requires fact_2 { s < n }
     ensures { (result ≡ slot mem.now n s) × (result < n) }
 {
     let a = mix_of(mem, s);
-    let b = mix_of(mem, index(mem[s * 8 + 3]));
+    let b = mix_of(mem, mem[s * 8 + 3] as usize);
     let h = (a + b) / 16777216;
     (h as usize) % n
 }
 
 // One more than the highest side below s that has its key, or 0, where `from` is that of the highest side below s in its slot.
+// A number, not an Option: it is what the cell holds.
 fn find(mem: &[u32], n: usize, s: usize, from: u32) -> u32
     requires sides_1 { Sides mem.now n }
     requires sides_2 { s < n }
@@ -110,8 +97,9 @@ fn find(mem: &[u32], n: usize, s: usize, from: u32) -> u32
         return 0;
     }
     let mut t = from;
+    // A while: the chain of links in the slot is followed to its end.
     while t > 0 {
-        let u = index(t - 1);
+        let u = (t - 1) as usize;
         if same_side(mem, n, u, s) {
             return t;
         }
@@ -127,10 +115,8 @@ fn clear(mem: &mut [u32], n: usize)
     ensures kept { Kept 4 mem.old mem.new }
     ensures by_index { (s : ℕ) → s < n → col mem.new 4 s ≡ 0 }
 {
-    let mut s = 0;
-    while s < n {
+    for s in 0..n {
         mem[s * 8 + 4] = 0;
-        s += 1;
     }
 }
 
@@ -141,19 +127,18 @@ fn link(mem: &mut [u32], n: usize)
     ensures kept { Kept 4 mem.old mem.new }
     ensures before { Before (side_cells mem.old) (col mem.new 6) n }
 {
-    let mut s = 0;
-    while s < n {
+    for s in 0..n {
         let h = slot_of(mem, n, s);
         let from = mem[h * 8 + 4];
         let p = find(mem, n, s, from);
         mem[s * 8 + 6] = p;
         mem[s * 8 + 5] = from;
         mem[h * 8 + 4] = (s + 1) as u32;
-        s += 1;
     }
 }
 
 // The pair of side s where no side below it has its key.
+// A number, not an Option: it is what the cell is to hold.
 fn own_pair(mem: &[u32], n: usize, s: usize) -> u32
     requires fact_1 { Sides mem.now n }
     requires fact_2 { s < n }
@@ -166,6 +151,7 @@ fn own_pair(mem: &[u32], n: usize, s: usize) -> u32
 }
 
 // The pair of a side that two later sides follow: where it is the first of its key, which `prev` tells, there are more than two.
+// A number, not an Option: it is what the cell is to hold.
 fn third_pair(prev: u32, n: usize) -> u32
     requires { n ≤ 16384 }
     ensures { result ≡ cond (eqb prev 0) (n + 1) 0 }
@@ -184,14 +170,13 @@ fn pair_one(mem: &mut [u32], n: usize, s: usize)
     requires out { Out (side_cells mem.old) (n + 1) s (col mem.old 7) }
     ensures { Step mem.old mem.new n s }
 {
-    let p = index(mem[s * 8 + 6]);
+    let p = mem[s * 8 + 6] as usize;
     if p == 0 {
-        let own = own_pair(mem, n, s);
-        mem[s * 8 + 7] = own;
+        mem[s * 8 + 7] = own_pair(mem, n, s);
         return;
     }
     let u = p - 1;
-    let q = index(mem[u * 8 + 6]);
+    let q = mem[u * 8 + 6] as usize;
     if q == 0 {
         mem[s * 8 + 7] = 0;
         mem[u * 8 + 7] = (s + 1) as u32;
@@ -209,10 +194,8 @@ fn pair(mem: &mut [u32], n: usize)
     requires fact_2 { Before (side_cells mem.old) (col mem.old 6) n }
     ensures { Paired mem.old mem.new n }
 {
-    let mut s = 0;
-    while s < n {
+    for s in 0..n {
         pair_one(mem, n, s);
-        s += 1;
     }
 }
 

@@ -2,18 +2,14 @@
 use mathlib.Core.Path.{◌≡◌, refl, sym, ap, ◌∙◌, subst}
 use mathlib.Core.Bool.{true, false}
 use mathlib.Core.List.{List}
-use Prim.Native.Nat.{ℕ, ◌+◌, ◌-◌, ◌*◌, ◌^◌, ◌≤◌, ◌<◌}
+use Prim.Native.Nat.{ℕ, ◌+◌, ◌-◌, ◌*◌, ◌≤◌, ◌<◌}
 use native.Mathlib.Omega.{arith}
 use native.Mathlib.Numerals.{add-one}
 use native.Mathlib.Nat.{le_antisymm, add-zero}
-use native.Mathlib.Nat as nat
-use lib.Dec.{T, lit≤}
 use lib.ListN.{length}
-use lib.IntN.{pos}
-use borrow.Author.Tests.{eq-eqb, ne_eqb, le-leb}
-use lib.Ieee.{Float, binary64, add, mul, le, lt, eq, of_bits, of_fields, odd, in_float}
+use borrow.Author.Tests.{eq-eqb, ne_eqb}
+use lib.Ieee.{Float, binary64, add, mul, le, lt, eq, of_bits, of_fields, odd}
 use Rattle.num_float.specs.Sign.{NonNeg}
-use Rattle.num_float.proofs.Tests.{holds}
 use Rattle.num_float.proofs.Order.{le_trans, le_not_lt}
 use Rattle.num_root.specs.Root.{root}
 use Rattle.num_norm.proofs.RootOrder.{root_mono}
@@ -36,9 +32,6 @@ unfolding after
 after_next n k e = rw (ne_eqb _ _ e)
 
 -- ---- the first corners of a run
-pub fewer : (s : List ℕ) (first n m : ℕ) → m ≤ n → Corners s first n → Corners s first m
-fewer s first n m l h = record { inside = omega (arith, l, h.inside); each = λ k b. h.each k (omega (arith, l, b)) }
-
 -- what `corner` asks for
 pub readable_corner : (s : List ℕ) (first n k : ℕ) → Corners s first n → k < n → (24 * (first + k) + 24 ≤ length s) × VecWithin (vec_at_of s (24 * (first + k))) 10000
 readable_corner s first n k h l = (omega (arith, l, h.inside), h.each k l)
@@ -59,6 +52,19 @@ pub newell_more : (s : List ℕ) (first n k j : ℕ) (m a b r : Vec3) → m ≡ 
 unfolding newell_to corner_at
 newell_more s first n k j m a b r e p q w h = h ∙ rw (e, p, w, q, add-one)
 
+-- the side that ends at corner k, of which none is the first
+pub newell_next : (s : List ℕ) (first n k : ℕ) (m a b r : Vec3) → 1 ≤ k → k < n → a ≡ vec_at_of s (24 * (first + (k - 1))) →
+    m ≡ newell_to (corner_at s first) n (k - 1) → b ≡ vec_at_of s (24 * (first + k)) → r ≡ newell_step m a b →
+    (b ≡ vec_at_of s (24 * (first + (k + 1 - 1)))) × (r ≡ newell_to (corner_at s first) n (k + 1 - 1))
+newell_next s first n k m a b r low l p e w h =
+    let here : k ≡ k - 1 + 1 = omega arith in
+    let up : k - 1 + 1 ≡ k + 1 - 1 = omega arith in
+    let stays : k ≡ k + 1 - 1 = omega arith in
+    let to : k ≡ after n (k - 1) = here ∙ after_next n (k - 1) (λ q. omega (arith, q)) in (
+      subst (λ (j : ℕ). b ≡ vec_at_of s (24 * (first + j))) stays w,
+      subst (λ (j : ℕ). r ≡ newell_to (corner_at s first) n j) up (newell_more s first n (k - 1) k m a b r e p to w h),
+    )
+
 -- the last side ends at the first corner
 pub newell_last : (s : List ℕ) (first n k : ℕ) (m a b r : Vec3) → k < n → n ≤ k + 1 → m ≡ newell_to (corner_at s first) n k → a ≡ vec_at_of s (24 * (first + k)) →
     b ≡ vec_at_of s (24 * first) → r ≡ newell_step m a b → r ≡ newell_of (corner_at s first) n
@@ -77,9 +83,6 @@ pub corners_more : (s : List ℕ) (first k : ℕ) (m a r : Vec3) → m ≡ corne
     r ≡ corners_to (corner_at s first) (k + 1)
 unfolding corners_to corner_at
 corners_more s first k m a r e p h = h ∙ rw (e, p, add-one)
-
-pub corners_all : (s : List ℕ) (first n k : ℕ) (m : Vec3) → k ≤ n → n ≤ k → m ≡ corners_to (corner_at s first) k → m ≡ corners_to (corner_at s first) n
-corners_all s first n k m a b e = subst (λ (j : ℕ). m ≡ corners_to (corner_at s first) j) (le_antisymm a b) e
 
 -- ---- the area
 pub area_none : (s : List ℕ) (first : ℕ) → vector.zero ≡ area_to (corner_at s first) 0
@@ -120,8 +123,3 @@ unfolding is_flat length_of length_sq_of
 not_flat s first n m q e f h =
     let long : le e_18 (length_sq_of (newell_of (corner_at s first) n)) ≡ true = rw (sym e, sym f) h in
     sym (le_not_lt e_14 _ (le_trans e_14 (root e_18) _ e_14_le (root_mono e_18 _ e_18_up long)))
-
--- a number of corners as f64
-pub few_cast : (n : ℕ) → n ≤ 64 → T (in_float binary64 (pos n))
-unfolding in_float
-few_cast n h = holds (le-leb n (2 ^ 53) (nat.le_trans h (lit≤ tt)))

@@ -46,9 +46,7 @@ fn newell(file: &[u8], first: usize, count: usize) -> Vec3
     let start = corner(file, first);
     let mut n = Vec3::ZERO;
     let mut a = start;
-    let mut k: usize = 0;
-    while k + 1 < count {
-        k += 1;
+    for k in 1..count {
         let b = corner(file, first + k);
         n = newell_step(n, a, b);
         a = b;
@@ -62,10 +60,8 @@ fn corner_sum(file: &[u8], first: usize, count: usize) -> Vec3
     ensures { result ≡ corners_to (corner_at file.now first) count }
 {
     let mut sum = Vec3::ZERO;
-    let mut k: usize = 0;
-    while k < count {
+    for k in 0..count {
         sum = sum.add(corner(file, first + k));
-        k += 1;
     }
     sum
 }
@@ -96,7 +92,7 @@ impl Plane {
         let normal = n.div(n.length());
         let centroid = corner_sum(file, first, count).div(count as f64);
         Plane {
-            normal: normal,
+            normal,
             w: normal.dot(centroid),
         }
     }
@@ -129,10 +125,8 @@ pub fn poly_area(file: &[u8], first: usize, count: usize) -> f64
     ensures { result ≡ area_of_word (corner_at file.now first) count }
 {
     let mut area = 0.0;
-    let mut k: usize = 0;
-    while k < count - 2 {
-        area = area + triangle_area(file, first, k);
-        k += 1;
+    for k in 0..count - 2 {
+        area += triangle_area(file, first, k);
     }
     area
 }

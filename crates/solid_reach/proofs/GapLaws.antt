@@ -6,17 +6,16 @@ use Prim.Native.Nat.{ℕ, ◌*◌}
 use native.Mathlib.Nat as nat
 use lib.Dec.{T, eqb}
 use lib.IntN.{pos}
-use lib.Ieee.{Float, nan, inf, fin, binary64, up, down, unlike, round, add, sub, mul, neg, lt, eq, le, is_nan, of_bits}
+use lib.Ieee.{Float, nan, inf, fin, binary64, up, down, unlike, round, add, sub, mul, neg, lt, le, is_nan, of_bits}
 use lib.Ieee.Fits.{down_pos}
 use lib.Ieee.Scale.{finite}
 use Rattle.num_float.specs.Sign.{NonNeg}
 use Rattle.num_float.specs.Units.{minus_sign}
-use Rattle.num_float.proofs.Tests.{contrary}
 use Rattle.num_float.proofs.Order.{lt_numbers, lt_le, le_trans, lt_le_trans, le_lt_trans, not_lt_le}
 use Rattle.num_float.proofs.Rounding.{finite_between}
-use Rattle.num_float.proofs.Sign.{square_nonneg, add_nonneg}
+use Rattle.num_float.proofs.Sign.{square_nonneg}
 use Rattle.num_order.specs.Work.{sided}
-use Rattle.num_order.proofs.Sums.{add_le, sub_le, add_comm, add_number, sub_number, round_number}
+use Rattle.num_order.proofs.Sums.{add_le, sub_le, add_comm, add_number, round_number}
 use Rattle.num_order.proofs.Products.{mul_le, nonzero_up, nonzero_down}
 use Rattle.math.specs.Vector.{zero, one}
 use Rattle.solid_reach.specs.Work.{Spans, gap_of}

@@ -15,6 +15,7 @@ pub struct Reach {
 }
 
 // x where it is less than a.
+// Not std's min: it tests for a NaN, which no coordinate is, and is asked for each corner.
 fn lower(a: f64, x: f64) -> f64
     ensures { result ≡ lesser a x }
 {
@@ -51,26 +52,26 @@ fn gap(l: f64, h: f64, p: f64) -> f64
 
 impl Reach {
     // The box of no segment.
+    #[tactic(auto, unfolding(crate::specs::Work::nowhere))]
     pub fn none() -> Reach
         ensures { result ≡ nowhere }
     {
-        let most = f64::from_bits(0x7ff0_0000_0000_0000);
-        let least = f64::from_bits(0xfff0_0000_0000_0000);
         Reach {
             lo: Vec3 {
-                x: most,
-                y: most,
-                z: most,
+                x: f64::INFINITY,
+                y: f64::INFINITY,
+                z: f64::INFINITY,
             },
             hi: Vec3 {
-                x: least,
-                y: least,
-                z: least,
+                x: f64::NEG_INFINITY,
+                y: f64::NEG_INFINITY,
+                z: f64::NEG_INFINITY,
             },
         }
     }
 
     // With a point.
+    #[tactic(auto, unfolding(crate::specs::Work::with_point))]
     fn with_point(self, v: Vec3) -> Reach
         ensures { result ≡ with_point self v }
     {
@@ -89,6 +90,7 @@ impl Reach {
     }
 
     // With a segment: both its ends, rounded as a point along it is.
+    #[tactic(auto, unfolding(crate::specs::Work::with_segment, crate::specs::Work::point_on))]
     pub fn with_segment(self, s: Segment) -> Reach
         ensures { result ≡ with_segment self s }
     {
@@ -99,6 +101,7 @@ impl Reach {
     }
 
     // A square that the squared distance of p from no segment inside is less than.
+    #[tactic(auto, unfolding(crate::specs::Work::gap_square))]
     pub fn gap_square(self, p: Vec3) -> f64
         ensures { result ≡ gap_square p self }
     {
@@ -112,6 +115,7 @@ impl Reach {
 }
 
 // Keeps r in the numbers from `at` on.
+#[tactic(auto, unfolding(crate::specs::Work::put_reach))]
 pub fn put_reach(out: &mut [f64], at: usize, r: Reach)
     requires { at + 6 ≤ length out.old }
     ensures { out.new ≡ put_reach out.old at r }
@@ -125,6 +129,7 @@ pub fn put_reach(out: &mut [f64], at: usize, r: Reach)
 }
 
 // The one that is kept there.
+#[tactic(auto, unfolding(crate::specs::Work::reach_at))]
 pub fn reach_at(kept: &[f64], at: usize) -> Reach
     requires { at + 6 ≤ length kept.now }
     ensures { result ≡ reach_at kept.now at }

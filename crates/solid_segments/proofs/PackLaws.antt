@@ -1,5 +1,5 @@
 -- The cells of the sides packed one side after the other.
-use mathlib.Core.Path.{◌≡◌, refl, sym, ap, ◌∙◌, subst}
+use mathlib.Core.Path.{◌≡◌, ◌∙◌, subst}
 use mathlib.Core.List.{List}
 use mathlib.Core.Logic.{◌⊎◌, inl, inr}
 use Prim.Native.Nat.{ℕ, ◌+◌, ◌*◌, ◌≤◌, ◌<◌}
@@ -10,9 +10,6 @@ use Rattle.num_float.proofs.Tests.{lt_or_ge}
 use Rattle.file_part.specs.Part.{Part}
 use Rattle.solid_segments.specs.Sides.{SharedSegments}
 use Rattle.solid_segments.specs.Work.{PairedSides, Packed, PackedMore}
-
-pub packed_none : (l : List ℕ) → Packed 0 l l
-packed_none l = record { ends = λ s h. absurd (omega (arith, h)); owners = λ s h. absurd (omega (arith, h)); pairs = λ s h. absurd (omega (arith, h)); rest = λ i h. refl; long = refl }
 
 module _ (s : ℕ) (l : List ℕ) (room : s * 8 + 8 ≤ length l) where
   abbrev new : List ℕ
@@ -66,11 +63,6 @@ module _ (s : ℕ) (l : List ℕ) (room : s * 8 + 8 ≤ length l) where
           cell to from i a before same here (inr b) =
               let at : s ≡ i = omega (arith, a, b) in
               subst (λ (k : ℕ). get_or new (to k) 0 ≡ get_or old (from k) 0) at here
-
-pub packed_all : (v k : ℕ) (old new : List ℕ) → k ≤ v → v ≤ k → Packed k old new → Packed v old new
-packed_all v k old new a b h =
-    let same : k ≡ v = omega (arith, a, b) in
-    subst (λ (j : ℕ). Packed j old new) same h
 
 -- of the sides of a part
 pub packed_shared : (t : Part) (v : ℕ) (old new : List ℕ) → v ≡ t.vertices → PairedSides t old → Packed v old new → SharedSegments t new

@@ -148,8 +148,8 @@ module _ {file : List ℕ} {v p first end : ℕ} (run : RunAt file v p first end
   pub placed_end : (s : ℕ) → s ≡ end → (mem : List ℕ) → PlacedBelow (part_of file) mem s → PlacedBelow (part_of file) mem (start_of file (p + 1))
   placed_end s over mem h = subst (λ (k : ℕ). PlacedBelow (part_of file) mem k) (over ∙ run.end_is) h
 
-  pub owns_run : (s : ℕ) → s ≡ end → (mem new : List ℕ) → OwnsMore (part_of file) mem new first s → OwnsRun file mem new p
-  owns_run s over mem new h = rw (← run.first_is, ← run.end_is, ← over) h
+  pub owns_run : (s : ℕ) → s ≡ end → (mem new : List ℕ) → OwnsMore (part_of file) mem new (start_of file p) s → OwnsRun file mem new p
+  owns_run s over mem new h = rw (← run.end_is, ← over) h
 
 pub owns_none : (t : Part) (mem : List ℕ) (i : ℕ) → OwnsMore t mem mem i i
 unfolding OwnsMore

@@ -22,9 +22,7 @@ pub fn pack_sides(mem: &mut [u32], vertices: usize)
     requires fact_2 { vertices ≤ 16384 }
     ensures { Packed vertices mem.old mem.new }
 {
-    let mut s: usize = 0;
-    while s < vertices {
+    for s in 0..vertices {
         pack_side(mem, s);
-        s += 1;
     }
 }

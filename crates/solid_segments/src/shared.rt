@@ -13,30 +13,22 @@ use crate::pack::pack_sides;
 use file_part::corner::corner;
 use file_part::read::{entry_at, first_vertex, polygon_count, run_length, vertex_count};
 use solid_keys::chains::pair_sides;
+use std::ops::Range;
 
-// The vertices of a polygon: from `first` to before `end`.
-#[derive(Clone, Copy)]
-struct Run {
-    first: usize,
-    end: usize,
-}
-
-// The run of polygon p.
-fn read_run(file: &[u8], vertices: usize, p: usize) -> Run
+// The vertices of polygon p.
+fn read_run(file: &[u8], vertices: usize, p: usize) -> Range<usize>
     requires fact_1 { Readable file.now }
     requires fact_2 { vertices ≡ vertex_count_of file.now }
     requires fact_3 { p < polygon_count_of file.now }
-    ensures { RunAt file.now vertices p result.first result.end }
+    ensures { RunAt file.now vertices p result.start result.end }
 {
     let at = entry_at(vertices, p);
     let first = first_vertex(file, at);
-    Run {
-        first: first,
-        end: first + run_length(file, at),
-    }
+    first..first + run_length(file, at)
 }
 
 // The vertex after s in a run from `first` to before `end`.
+#[tactic(auto, unfolding(crate::specs::Sides::next_of))]
 fn next_vertex(first: usize, end: usize, s: usize) -> usize
     requires { s < 16384 }
     ensures { result ≡ next_of first end s }
@@ -73,26 +65,20 @@ fn put_run(file: &[u8], mem: &mut [u32], vertices: usize, p: usize)
     ensures { PlacedBelow (part_of file.now) mem.new (start_of file.now (p + 1)) }
 {
     let run = read_run(file, vertices, p);
-    let first = run.first;
-    let end = run.end;
-    let mut s = first;
-    while s < end {
-        let to = next_vertex(first, end, s);
-        put_side(file, mem, s, to);
-        s += 1;
+    for s in run.start..run.end {
+        put_side(file, mem, s, next_vertex(run.start, run.end, s));
     }
 }
 
 // Columns 0 to 3 of all sides.
+// Beside put_owners: one loop for both would take a closure with a contract over lent cells, longer than the two.
 fn put_sides(file: &[u8], mem: &mut [u32], vertices: usize, polygons: usize)
     requires fact_1 { Lent file.now mem.old vertices }
     requires fact_2 { polygons ≡ polygon_count_of file.now }
     ensures { PlacedBelow (part_of file.now) mem.new vertices }
 {
-    let mut p = 0;
-    while p < polygons {
+    for p in 0..polygons {
         put_run(file, mem, vertices, p);
-        p += 1;
     }
 }
 
@@ -103,11 +89,8 @@ fn put_owner(file: &[u8], mem: &mut [u32], vertices: usize, p: usize)
     ensures { OwnsRun file.now mem.old mem.new p }
 {
     let run = read_run(file, vertices, p);
-    let end = run.end;
-    let mut s = run.first;
-    while s < end {
+    for s in run.start..run.end {
         mem[s * 8 + 4] = p as u32;
-        s += 1;
     }
 }
 
@@ -117,10 +100,8 @@ fn put_owners(file: &[u8], mem: &mut [u32], vertices: usize, polygons: usize)
     requires fact_2 { polygons ≡ polygon_count_of file.now }
     ensures { OwnsMore (part_of file.now) mem.old mem.new 0 vertices }
 {
-    let mut p = 0;
-    while p < polygons {
+    for p in 0..polygons {
         put_owner(file, mem, vertices, p);
-        p += 1;
     }
 }
 

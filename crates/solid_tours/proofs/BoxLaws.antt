@@ -9,6 +9,7 @@ use borrow.Author.Tests.{ltb-true, ltb-false, lt-ltb, le-ltb}
 use lib.Dec.{ltb}
 use lib.ListN.{length, get_or}
 use lib.Ieee.{Float, nan, lt}
+use Rattle.std.specs.Prelude.{min}
 use Rattle.num_float.proofs.Tests.{contrary, lt_or_ge}
 use Rattle.math.specs.declared.Vec3.{Vec3}
 use Rattle.list_laws.specs.Region.{Outside}
@@ -24,25 +25,22 @@ use Rattle.solid_reach.proofs.ReachLaws.{no_nearer, with_new, with_old, put_same
 use Rattle.solid_edges.specs.Work.{side_square}
 use Rattle.scratch.specs.declared.regions.Regions.{Regions}
 use Rattle.solid_tours.specs.Work.{least_square, Around, RunEnd, is_spared, BoxesPut}
-use Rattle.solid_tours.specs.Work.Kept.{item_count, item_side, edge_order, sides_at, side_segment, packed_at, box_count_of, box_at, OrderedTo, EdgesOrdered}
+use Rattle.solid_tours.specs.Work.Kept.{item_count, item_side, edge_order, sides_at, packed_at, box_count_of, box_at, OrderedTo, EdgesOrdered}
 use Rattle.solid_tours.proofs.PlaceLaws.{most}
 use Rattle.solid_tours.proofs.PackLaws.{side_square_lem, ordered_still}
 use Rattle.solid_tours.proofs.TourLaws.{order_long, least_spared}
 
 -- ---- how many
-chosen_first : (a c : ℕ) → a < c → a ≡ cond (ltb a c) a c
-chosen_first a c h = rw (lt-ltb a c h)
+chosen_least : (a c : ℕ) → min a c ≡ cond (ltb a c) a c
+chosen_least a c = go (lt_or_ge a c)
+  where
+    go : (a < c) ⊎ (c ≤ a) → min a c ≡ cond (ltb a c) a c
+    go (inl less) = rw (lt-ltb a c less) (omega (arith, less))
+    go (inr most) = rw (le-ltb a c most) (omega (arith, most))
 
-chosen_second : (a c : ℕ) → c ≤ a → c ≡ cond (ltb a c) a c
-chosen_second a c h = rw (le-ltb a c h)
-
-pub count_wanted : (m v : ℕ) → m / 16 + 1 < (7 * (v - m) + 1024) / 6 → m / 16 + 1 ≡ box_count_of m v
+pub count_least : (m v : ℕ) → min (m / 16 + 1) ((7 * (v - m) + 1024) / 6) ≡ box_count_of m v
 unfolding box_count_of
-count_wanted m v h = chosen_first (m / 16 + 1) ((7 * (v - m) + 1024) / 6) h
-
-pub count_room : (m v : ℕ) → (7 * (v - m) + 1024) / 6 ≤ m / 16 + 1 → (7 * (v - m) + 1024) / 6 ≡ box_count_of m v
-unfolding box_count_of
-count_room m v h = chosen_second (m / 16 + 1) ((7 * (v - m) + 1024) / 6) h
+count_least m v = chosen_least (m / 16 + 1) ((7 * (v - m) + 1024) / 6)
 
 chosen_below : (a c : ℕ) → (cond (ltb a c) a c ≤ a) × (cond (ltb a c) a c ≤ c)
 chosen_below a c = go (ltb a c) refl

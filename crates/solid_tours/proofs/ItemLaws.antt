@@ -2,8 +2,9 @@
 use mathlib.Core.Path.{◌≡◌, refl, sym, ap, ◌∙◌, subst}
 use mathlib.Core.Bool.{Bool, true, false, not, ◌&&◌, ◌||◌, cond}
 use mathlib.Core.Logic.{◌⊎◌, inl, inr}
+use Rattle.std.proofs.Common.{Some, None}
 use mathlib.Core.List.{List, [], ◌∷◌, ◌++◌, map, Memᴰ}
-use Prim.Native.Nat.{ℕ, suc, ◌+◌, ◌*◌, ◌/◌, ◌%◌, ◌≤◌, ◌<◌}
+use Prim.Native.Nat.{ℕ, ◌+◌, ◌*◌, ◌/◌, ◌%◌, ◌≤◌, ◌<◌}
 use native.Mathlib.Omega.{arith}
 use lib.Dec.{eqb}
 use lib.ListN.{get_or}
@@ -116,7 +117,7 @@ module _ (s : List ℕ) (readable : Readable s) where
         pair_is n (rank_of t (item_face t k)) (rank_of t (item_other t k)) a b (rank_below t (item_other t k) other_inside) l (sym key_is ∙ e)
 
     -- it leads from its face to the other
-    pub item_leads : (f : ℕ) → item_face t k ≡ f → leads_to t f (item_side t k) ≡ suc (item_other t k)
+    pub item_leads : (f : ℕ) → item_face t k ≡ f → leads_to t f (item_side t k) ≡ Some (item_other t k)
     unfolding item_face item_other leads_to is_edge_of_word other_face
     item_leads f e = rw (item_side_lem k h).1 (go (eqb (k % 2) 0) e)
       where
@@ -126,7 +127,7 @@ module _ (s : List ℕ) (readable : Readable s) where
         y : ℕ
         y = face_beyond t (item_side t k)
 
-        go : (b : Bool) → cond b x y ≡ f → cond (eqb x f || eqb y f) (suc (cond (eqb x f) y x)) 0 ≡ suc (cond b y x)
+        go : (b : Bool) → cond b x y ≡ f → cond (eqb x f || eqb y f) (Some (cond (eqb x f) y x)) None ≡ Some (cond b y x)
         go true q = rw (eq-eqb x f q)
         go false q = rw (ne_eqb x f (λ z. edge_apart t (item_side t k) (item_side_lem k h).1 (z ∙ sym q)), eq-eqb y f q)
 

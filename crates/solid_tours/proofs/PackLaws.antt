@@ -25,7 +25,6 @@ use Rattle.solid_distance.proofs.KeptLaws.{square_is, put_same, put_kept, segmen
 use Rattle.solid_reach.specs.Work.{Holds, reach_at}
 use Rattle.solid_edges.specs.Work.{side_square}
 use Rattle.scratch.specs.declared.regions.Regions.{Regions}
-use Rattle.scratch.specs.Standing.{Standing}
 use Rattle.scratch.proofs.StandingLaws.{standing_kept}
 use Rattle.solid_tours.specs.Work.Kept.{item_count, item_side, item_key, edge_keys, edge_order, side_segment, packed_at, box_count_of, box_at, OrderedTo, EdgesSorted, EdgesPut, ItemAt}
 use Rattle.solid_tours.specs.Work.{SortedPut, PackedPut, BoxesPut}

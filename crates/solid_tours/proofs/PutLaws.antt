@@ -1,7 +1,8 @@
 -- The edges put as items, side by side, and their sort.
 use mathlib.Core.Path.{◌≡◌, refl, sym, ap, ◌∙◌, subst, subst₂}
-use mathlib.Core.Bool.{true, false, not}
+use mathlib.Core.Bool.{true, false}
 use mathlib.Core.Logic.{◌⊎◌, inl, inr}
+use Rattle.std.proofs.Common.{Some, None}
 use mathlib.Core.List.{List, [], ◌∷◌, ◌++◌}
 use Prim.Native.Nat.{ℕ, ◌+◌, ◌-◌, ◌*◌, ◌/◌, ◌%◌, ◌^◌, ◌≤◌, ◌<◌}
 use native.Mathlib.Nat.{mul-le-mul, le_trans}
@@ -11,7 +12,7 @@ use lib.ListN.{length, get_or, set, length-append, length-set, get_or-append}
 use lib.Seq.{get_or-append-add, get_or-set_same, get_or-set_other}
 use lib.Ieee.{Float, nan}
 use borrow.Rule.Slice.PartMut.{put_mid}
-use borrow.Author.Tests.{eq-eqb, ne_eqb, not-true, not-false}
+use borrow.Author.Tests.{eq-eqb, ne_eqb}
 use Rattle.num_float.proofs.Tests.{lt_or_ge}
 use Rattle.list_laws.specs.Region.{part, Outside}
 use Rattle.list_laws.proofs.Regions.{part_length, part_put}
@@ -202,18 +203,20 @@ module _ (s : List ℕ) (at : Regions) (words : List ℕ) (reals : List Float) (
   pub few_cells : faces_of u ≤ 4096
   few_cells = omega (arith, few_faces u, placed_polygons s at h.placed, h.placed.laid)
 
-  pub none_put : (e : Edge) → EdgeIs u i e → not e.is_edge ≡ true → EdgePut u at i m words words reals reals m
-  none_put e is not-one = put_none u at i m words reals (sym is.is ∙ not-true _ not-one)
+  pub none_put : EdgeIs u i None → EdgePut u at i m words words reals reals m
+  unfolding EdgeIs
+  none_put is = put_none u at i m words reals is
 
-  module _ (e : Edge) (is : EdgeIs u i e) (yes : not e.is_edge ≡ false) where
+  module _ (e : Edge) (is : EdgeIs u i (Some e)) where
     edge : is_edge_of u i ≡ true
-    edge = sym is.is ∙ not-false _ yes
+    unfolding EdgeIs
+    edge = is.0
 
     pub near_in : e.near < faces_of u
-    near_in = near_few s (checked_readable s h.placed.checked) i side_in e is (not-false _ yes)
+    near_in = near_few s (checked_readable s h.placed.checked) i side_in e is
 
     pub far_in : e.beyond < faces_of u
-    far_in = beyond_few s (checked_readable s h.placed.checked) i side_in e is (not-false _ yes)
+    far_in = beyond_few s (checked_readable s h.placed.checked) i side_in e is
 
     pub two_room : m + 2 ≤ at.vertices
     two_room = omega (arith, before, items_room u i (omega (arith, low, placed_vertices s at h.placed)) edge, placed_vertices s at h.placed)
@@ -226,10 +229,12 @@ module _ (s : List ℕ) (at : Regions) (words : List ℕ) (reals : List Float) (
 
     module _ (a b : ℕ) (ea : a ≡ get_or words (at.ranks + e.near) 0) (eb : b ≡ get_or words (at.ranks + e.beyond) 0) where
       rank_near : a ≡ rank_of u (face_of_side u i)
-      rank_near = ea ∙ ranked.each e.near near_in ∙ ap (rank_of u) (is.near_is (not-false _ yes))
+      unfolding EdgeIs
+      rank_near = ea ∙ ranked.each e.near near_in ∙ ap (rank_of u) is.1
 
       rank_far : b ≡ rank_of u (face_beyond u i)
-      rank_far = eb ∙ ranked.each e.beyond far_in ∙ ap (rank_of u) (is.beyond_is (not-false _ yes))
+      unfolding EdgeIs
+      rank_far = eb ∙ ranked.each e.beyond far_in ∙ ap (rank_of u) is.2
 
       pub ranks_in : (a ≤ n) × (b ≤ n)
       ranks_in = (

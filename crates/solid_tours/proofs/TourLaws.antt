@@ -3,12 +3,13 @@ use mathlib.Core.Path.{◌≡◌, refl, sym, ap, ◌∙◌, subst}
 use mathlib.Core.Bool.{true, false}
 use mathlib.Core.Logic.{◌⊎◌, inl, inr}
 use mathlib.Core.List.Memᴰ
+use Rattle.std.proofs.Common.{Option, Some}
 use mathlib.Core.List.{List, [], ◌∷◌, ◌++◌, map, map-append, Memᴰ}
 use Prim.Native.Nat.{ℕ, zero, suc, ◌+◌, ◌-◌, ◌*◌, ◌≤◌, ◌<◌}
 use native.Mathlib.Nat.{le_antisymm}
 use native.Mathlib.Numerals.{add-one}
 use native.Mathlib.Omega.{arith}
-use lib.Ieee.{Float, inf, binary64, lt, of_bits}
+use lib.Ieee.{Float, binary64, lt, of_bits}
 use lib.ListN.{length, get_or, take, drop}
 use borrow.Author.Tests.{ltb-true, ltb-false}
 use Rattle.num_float.specs.Order.{lesser}
@@ -270,7 +271,7 @@ module _ (s : List ℕ) (at : Regions) (words : List ℕ) (reals : List Float) (
     begins = le_antisymm (omega (arith, left.start_is, start_mono_key s at words reals o (row + left.upto) key low)) (in_group s at words reals o i inside).0
 
     -- where its edges lead to
-    pub leads : (r : ℕ) (k : ℕ) → ItemAt t at words i r → k ≡ leads_to t f r → k ≡ suc g
+    pub leads : (r : ℕ) (k : Option ℕ) → ItemAt t at words i r → k ≡ leads_to t f r → k ≡ Some g
     leads r k item e = e ∙ ap (leads_to t f) item.side ∙ item_leads s (readable s at words reals o) z z_below f face_is
 
     module _ (e : ℕ) (run : RunEnds (edge_keys at reals) xs rest.end i e) where
@@ -311,9 +312,10 @@ module _ (s : List ℕ) (at : Regions) (words : List ℕ) (reals : List Float) (
           (part_keys (item_key t) m (n * n) xs o.grouped (row + rank_of t g) 1 (omega (arith, rank_below t g g_below, row_inside s at words reals o f lf)) ∙ one)
           ∙ between_items s (readable s at words reals o) f g lf g_below
 
-      pub next_is : (r k : ℕ) → ItemAt t at words i r → k ≡ leads_to t f r → NextGroup t at words f rest (record { face = f; other = k - 1; start = i; end = e })
-      next_is r k item leads-to =
-          let same : k - 1 ≡ g = omega (arith, leads r k item leads-to) in
+      pub next_is : (r x : ℕ) (k : Option ℕ) → ItemAt t at words i r → k ≡ leads_to t f r → k ≡ Some x →
+          NextGroup t at words f rest (record { face = f; other = x; start = i; end = e })
+      next_is r x k item leads-to there =
+          let same : x ≡ g = grind (arith, sym there ∙ leads r k item leads-to) in
           subst (λ (x : ℕ). NextGroup t at words f rest (record { face = f; other = x; start = i; end = e })) (sym same)
           (record {
             face_is = refl;

@@ -18,10 +18,7 @@ pub fn box_count(m: usize, v: usize) -> usize
 {
     let wanted = m / 16 + 1;
     let room = (7 * (v - m) + 1024) / 6;
-    if wanted < room {
-        return wanted;
-    }
-    room
+    wanted.min(room)
 }
 
 // The box of the edges at the places from i to before e.
@@ -33,10 +30,8 @@ fn box_of(reals: &[f64], at: Regions, i: usize, e: usize) -> Reach
     ensures { Around at reals.now i e result }
 {
     let mut r = Reach::none();
-    let mut j = i;
-    while j < e {
+    for j in i..e {
         r = r.with_segment(segment_at(reals, at.free + 7 * j));
-        j += 1;
     }
     r
 }
@@ -46,10 +41,7 @@ pub fn run_end(a: usize, e: usize) -> usize
     requires { a ≤ 16384 }
     ensures { RunEnd a e result }
 {
-    if a + 16 < e {
-        return a + 16;
-    }
-    e
+    e.min(a + 16)
 }
 
 // Puts box b, where those before it are put and all m edges are packed.
@@ -72,10 +64,8 @@ pub fn put_boxes(file: &[u8], words: &[u32], reals: &mut [f64], at: Regions, m: 
     ensures { BoxesPut file.now at words.now reals.old reals.new (box_count_of (item_count (part_of file.now)) at.vertices) }
 {
     let n = box_count(m, at.vertices);
-    let mut b: usize = 0;
-    while b < n {
+    for b in 0..n {
         put_box(file, words, reals, at, m, b);
-        b += 1;
     }
 }
 

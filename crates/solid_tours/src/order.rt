@@ -18,6 +18,7 @@ use scratch::regions::Regions;
 use solid_edges::edge::edge_at;
 
 // The key of the ranks a and b among n faces. Keys rise as a does, and as b does where a is the same.
+// As pair_key of solid_pairs: neither crate stands on the other, and a third for one line is no plainer.
 pub fn edge_key(a: usize, b: usize, n: usize) -> f64
     requires fact_1 { a ≤ n }
     requires fact_2 { b ≤ n }
@@ -52,10 +53,9 @@ fn put_edge(file: &[u8], words: &mut [u32], reals: &mut [f64], at: Regions, turn
     let items = at.items;
     let faces = at.faces;
     let end = at.readings;
-    let e = edge_at(file, &words[sides..items], &words[faces..end], s);
-    if !e.is_edge {
+    let Some(e) = edge_at(file, &words[sides..items], &words[faces..end], s) else {
         return m;
-    }
+    };
     let ranks = at.ranks;
     let keys = at.directions;
     let near = cell(words, ranks + e.near);
@@ -77,17 +77,14 @@ fn put_edges(file: &[u8], words: &mut [u32], reals: &mut [f64], at: Regions, n: 
     requires fact_4 { at.segments ≡ true }
     ensures { AllPut file.now at words.old words.new reals.old reals.new result }
 {
-    let vertices = at.vertices;
     let mut m: usize = 0;
-    let mut s: usize = 0;
-    while s < vertices {
+    for s in 0..at.vertices {
         let turn = Turn {
             faces: n,
             side: s,
             before: m,
         };
         m = put_edge(file, words, reals, at, turn);
-        s += 1;
     }
     m
 }

@@ -33,9 +33,7 @@ pub fn pack_edges(file: &[u8], words: &[u32], reals: &mut [f64], at: Regions, m:
     requires fact_2 { m ≡ item_count (part_of file.now) }
     ensures { PackedPut file.now at words.now reals.old reals.new (item_count (part_of file.now)) }
 {
-    let mut j: usize = 0;
-    while j < m {
+    for j in 0..m {
         pack_edge(file, words, reals, at, j);
-        j += 1;
     }
 }

@@ -78,6 +78,7 @@ fn rank_start(file: &[u8], words: &[u32], reals: &[f64], edges: Edges, r: usize)
     let key = edge_key(r, 0, edges.faces);
     let mut low: usize = 0;
     let mut high = edges.items;
+    // A while: each turn halves what is left.
     while low < high {
         let middle = low + (high - low) / 2;
         if key_at(file, words, reals, at, middle) < key {
@@ -131,12 +132,9 @@ fn least_square(
     requires fact_3 { places.end ≤ item_count (part_of file.now) }
     ensures { result ≡ least_square (part_of file.now) p least (sides_at (part_of file.now) at words.now places.start places.end) }
 {
-    let end = places.end;
     let mut best = least;
-    let mut j = places.start;
-    while j < end {
+    for j in places.start..places.end {
         best = nearer(reals, at.free + 7 * j, p, best);
-        j += 1;
     }
     best
 }
@@ -189,6 +187,7 @@ fn boxed_square(
     let count = box_count(edges.items, edges.at.vertices);
     let mut best = least;
     let mut j = places.start;
+    // A while: each turn goes to the end of a box.
     while j < end {
         let stop = run_end(j / 16 * 16, end);
         let run = Places {
@@ -202,6 +201,7 @@ fn boxed_square(
 }
 
 // The least distance of point p from the edges of face f; infinity where it has none. One root of the least square gives the same f64.
+// An f64, not an Option: the definition is that number.
 pub fn edge_distance(
     file: &[u8],
     words: &[u32],
@@ -216,7 +216,7 @@ pub fn edge_distance(
     ensures { result ≡ edge_distance (part_of file.now) f p }
 {
     let places = face_places(file, words, reals, edges, f);
-    let least = f64::from_bits(0x7ff0_0000_0000_0000);
+    let least = f64::INFINITY;
     num_root::sqrt(boxed_square(file, words, reals, edges, places, p, least))
 }
 
@@ -259,7 +259,7 @@ pub fn between_distance(
         start: group.start,
         end: group.end,
     };
-    let least = f64::from_bits(0x7ff0_0000_0000_0000);
+    let least = f64::INFINITY;
     num_root::sqrt(least_square(file, words, reals, at, places, p, least))
 }
 
@@ -288,7 +288,7 @@ pub fn next_group(
     let keys_end = at.free;
     let start = rest.start;
     let s = item_at(file, words, reals, at, start);
-    let other = leads_to(file, &words[sides..items], &words[faces..faces_end], f, s);
+    let other = leads_to(file, &words[sides..items], &words[faces..faces_end], f, s).unwrap();
     let end = group_end(
         &reals[keys..keys_end],
         &words[sorted..sorted_end],
@@ -297,8 +297,8 @@ pub fn next_group(
     );
     Group {
         face: f,
-        other: other - 1,
-        start: start,
-        end: end,
+        other,
+        start,
+        end,
     }
 }

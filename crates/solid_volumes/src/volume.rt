@@ -8,7 +8,7 @@ ghost use Rattle.solid_bodies.specs.Body.{Labels};
 ghost use Rattle.solid_volumes.specs.Volume.{pyramid, fan, Volumes};
 
 use file_part::read::{entry_at, first_vertex, polygon_count, run_length, vertex, vertex_count};
-use list_cells::{fill_reals, wide};
+use list_cells::fill;
 use math::Vec3;
 
 // The signed volume over a triangle, with its tip at zero.
@@ -26,18 +26,14 @@ fn fan_volume(file: &[u8], at: usize, start: f64) -> f64
     ensures { result ≡ fan (λ i. vec_at_of file.now (24 * i)) (first_at file.now at) start (count_at_of file.now at - 2) }
 {
     let first = first_vertex(file, at);
-    let triangles = run_length(file, at) - 2;
     let tip = vertex(file, first);
     let mut sum = start;
-    let mut k: usize = 0;
-    while k < triangles {
-        sum = sum
-            + pyramid_volume(
-                tip,
-                vertex(file, first + k + 1),
-                vertex(file, first + k + 2),
-            );
-        k += 1;
+    for k in 0..run_length(file, at) - 2 {
+        sum += pyramid_volume(
+            tip,
+            vertex(file, first + k + 1),
+            vertex(file, first + k + 2),
+        );
     }
     sum
 }
@@ -49,13 +45,11 @@ pub fn volumes(file: &[u8], labels: &[u32], volume: &mut [f64])
     requires fact_3 { length volume.old ≡ polygon_count_of file.now }
     ensures { Volumes (part_of file.now) volume.new }
 {
-    fill_reals(volume, 0.0);
+    fill(volume, 0.0);
     let vertices = vertex_count(file);
     let polygons = polygon_count(file);
-    let mut p: usize = 0;
-    while p < polygons {
-        let b = wide(labels[p]);
+    for p in 0..polygons {
+        let b = labels[p] as usize;
         volume[b] = fan_volume(file, entry_at(vertices, p), volume[b]);
-        p += 1;
     }
 }

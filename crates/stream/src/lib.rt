@@ -15,6 +15,7 @@ pub fn read_full<R: Read>(input: &mut R, buffer: &mut [u8]) -> io::Result<usize>
     ensures end { IfOk result (λ n. n < length buffer.new → IsAtEnd (R.remaining input.new)) }
 {
     let mut done: usize = 0;
+    // A while: a read may give several bytes.
     while done < buffer.len() {
         let count = input.read(&mut buffer[done..])?;
         if count == 0 {

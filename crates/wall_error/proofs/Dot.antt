@@ -1,5 +1,5 @@
 -- A rounded dot product beside the exact one, for a vector n with components of at most 1 in size and a vector v with components of at most k.
-use mathlib.Core.Path.{◌≡◌, sym, ap, ◌∙◌}
+use mathlib.Core.Path.{◌≡◌}
 use Prim.Native.Nat.{ℕ, ◌+◌, ◌*◌, ◌/◌, ◌%◌, ◌^◌, ◌≤◌, ◌<◌}
 use native.Mathlib.Nat.{le_trans, le_of_eq, lt_of_le_of_lt, add_assoc, add-mul, one-mul, mul-le-mul, div-add-mod', mod-lt}
 use native.Mathlib.Omega.{arith}

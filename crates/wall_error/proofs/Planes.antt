@@ -1,8 +1,7 @@
 -- The distance along a ray to a plane, with 1e-6 added, beside the exact one.
 use mathlib.Core.Path.{◌≡◌, sym, subst}
 use Prim.Native.Nat.{ℕ, ◌+◌, ◌*◌, ◌≤◌, ◌<◌}
-use native.Mathlib.Nat.{le_trans, le_of_eq, mul_assoc, mul-le-mul_right, mul-le-mul_left}
-use native.Mathlib.Omega.{arith}
+use native.Mathlib.Nat.{le_trans, le_of_eq, mul_assoc, mul-le-mul_right}
 use lib.Dec.{lit<, lit≤}
 use lib.IntN.{ℤ, pos, nat_abs, ◌-ℤ◌, ◌*ℤ◌}
 use lib.Ieee.{Float, binary64, add}

@@ -19,7 +19,8 @@ use Rattle.solid_faces.specs.Faces.{polygon_plane, Checked}
 use Rattle.solid_sizes.specs.Sizes.{VecFits, PlaneWithin}
 use Rattle.solid_sizes.proofs.Planes.{checked_plane}
 use Rattle.scratch.specs.declared.regions.Regions.{Regions}
-use Rattle.wall_ray.specs.declared.strike.Hit.TheVariants.{At}
+use Rattle.std.specs.Prelude.{Some}
+use Rattle.wall_ray.specs.declared.strike.Hit.{Hit}
 use Rattle.wall_ray.specs.Strike.{time_of, hit_time}
 use Rattle.wall_ray.specs.Nearest.{hit_of}
 use Rattle.wall_ray.proofs.NearestLaws.{hit_struck}
@@ -86,14 +87,14 @@ module _ (s : List ℕ) (h : Checked s) where
       ReadingFacing least t (reading (readings_of t) k) → ReadingNear precision t (reading (readings_of t) k)
   by_room least precision room = readings_each t (λ (r : Reading). ReadingFacing least t r → ReadingNear precision t r) hit
     where
-      hit : (p q : ℕ) (x : Float) → p < t.polygons → hit_of t (ray_of t p) ≡ At q x → faces_back t p q ≡ true →
-          ReadingFacing least t (record { polygon = p; hit = q; thickness = add binary64 x e_6 }) →
-          ReadingNear precision t (record { polygon = p; hit = q; thickness = add binary64 x e_6 })
-      hit p q x l e back far =
-          let k = hit_struck t (ray_of t p) q x e in
-          let is : x ≡ time_of (polygon_plane t q) (ray_of t p) = unfold hit_time in k.2 in
-          subst (λ (y : Float). ReadingNear precision t (record { polygon = p; hit = q; thickness = add binary64 y e_6 })) (sym is)
-          (strike_near t p q (plane p l) (plane q k.0) least precision room (unfold ReadingFacing in far))
+      hit : (p : ℕ) (h : Hit) → p < t.polygons → hit_of t (ray_of t p) ≡ Some h → faces_back t p h.polygon ≡ true →
+          ReadingFacing least t (record { polygon = p; hit = h.polygon; thickness = add binary64 h.t e_6 }) →
+          ReadingNear precision t (record { polygon = p; hit = h.polygon; thickness = add binary64 h.t e_6 })
+      hit p h l e back far =
+          let k = hit_struck t (ray_of t p) h e in
+          let is : h.t ≡ time_of (polygon_plane t h.polygon) (ray_of t p) = unfold hit_time in k.2 in
+          subst (λ (y : Float). ReadingNear precision t (record { polygon = p; hit = h.polygon; thickness = add binary64 y e_6 })) (sym is)
+          (strike_near t p h.polygon (plane p l) (plane h.polygon k.0) least precision room (unfold ReadingFacing in far))
 
   -- "Where normal and direction have an exact dot product of at least 0.02 in size, the reading differs from the exact distance along the ray to that
   -- plane, plus the exact f64 1e-6, by less than 1e-7 mm"
@@ -104,9 +105,9 @@ module _ (s : List ℕ) (h : Checked s) where
   pub readings_facing : (k : ℕ) → k < length (readings_of t) → ReadingFacing kept_dot t (reading (readings_of t) k)
   readings_facing = readings_each t (ReadingFacing kept_dot t) hit
     where
-      hit : (p q : ℕ) (x : Float) → p < t.polygons → hit_of t (ray_of t p) ≡ At q x → faces_back t p q ≡ true →
-          ReadingFacing kept_dot t (record { polygon = p; hit = q; thickness = add binary64 x e_6 })
-      hit p q x l e back = unfold ReadingFacing in back_facing t p q (plane p l) (plane q (hit_struck t (ray_of t p) q x e).0) back
+      hit : (p : ℕ) (h : Hit) → p < t.polygons → hit_of t (ray_of t p) ≡ Some h → faces_back t p h.polygon ≡ true →
+          ReadingFacing kept_dot t (record { polygon = p; hit = h.polygon; thickness = add binary64 h.t e_6 })
+      hit p h l e back = unfold ReadingFacing in back_facing t p h.polygon (plane p l) (plane h.polygon (hit_struck t (ray_of t p) h e).0) back
 
   -- so the condition of 0.02 is always met
   pub always_facing : (k : ℕ) → k < length (readings_of t) → ReadingFacing least_dot t (reading (readings_of t) k)

@@ -19,10 +19,8 @@ fn put_numbers(words: &mut [u32], at: usize, n: usize)
     requires fact_2 { n ≤ 4096 }
     ensures { NumbersPut n at words.old words.new }
 {
-    let mut i: usize = 0;
-    while i < n {
+    for i in 0..n {
         words[at + i] = i as u32;
-        i += 1;
     }
 }
 

@@ -42,11 +42,8 @@ fn reading_pair(file: &[u8], words: &[u32], at: Regions, n: usize, s: usize) -> 
     requires fact_3 { s < length (readings_of (part_of file.now)) }
     ensures { PairIs (part_of file.now) (face_from (part_of file.now) s) (face_hit (part_of file.now) s) result }
 {
-    let faces = at.faces;
-    let starts = at.readings;
-    let hits = at.hits;
-    let from = cell(words, faces + cell(words, starts + s));
-    let hit = cell(words, faces + cell(words, hits + s));
+    let from = cell(words, at.faces + cell(words, at.readings + s));
+    let hit = cell(words, at.faces + cell(words, at.hits + s));
     pair_of(file, words, at, n, from, hit)
 }
 
@@ -57,14 +54,9 @@ fn put_keys(file: &[u8], words: &[u32], reals: &mut [f64], at: Regions, counts: 
     requires fact_3 { Counted (part_of file.now) counts }
     ensures { KeysPut (item_key (part_of file.now) (face_from (part_of file.now)) (face_hit (part_of file.now))) at.falling counts.readings reals.old reals.new }
 {
-    let n = counts.faces;
-    let m = counts.readings;
-    let keys = at.falling;
-    let mut s: usize = 0;
-    while s < m {
-        let pair = reading_pair(file, words, at, n, s);
-        reals[keys + s] = pair.key;
-        s += 1;
+    for s in 0..counts.readings {
+        let pair = reading_pair(file, words, at, counts.faces, s);
+        reals[at.falling + s] = pair.key;
     }
 }
 
@@ -77,12 +69,11 @@ pub fn order_walls(file: &[u8], words: &mut [u32], reals: &mut [f64], at: Region
     ensures { WallsPut file.now at words.old words.new reals.old reals.new }
 {
     put_keys(file, words, reals, at, counts);
-    let order = at.order;
-    let end = at.kinds;
-    let keys = at.falling;
-    let keys_end = at.thickness;
-    let m = counts.readings;
-    sort_items(&reals[keys..keys_end], &mut words[order..end], m);
+    sort_items(
+        &reals[at.falling..at.thickness],
+        &mut words[at.order..at.kinds],
+        counts.readings,
+    );
 }
 
 // The two faces whose readings start at place i of the order.
@@ -99,18 +90,17 @@ pub fn next_wall(
     requires fact_3 { i < counts.readings }
     ensures { NextWallIs (part_of file.now) at words.now reals.now i result }
 {
-    let order = at.order;
-    let order_end = at.kinds;
-    let keys = at.falling;
-    let keys_end = at.thickness;
-    let n = counts.faces;
-    let m = counts.readings;
-    let end = group_end(&reals[keys..keys_end], &words[order..order_end], m, i);
-    let pair = reading_pair(file, words, at, n, cell(words, order + i));
+    let end = group_end(
+        &reals[at.falling..at.thickness],
+        &words[at.order..at.kinds],
+        counts.readings,
+        i,
+    );
+    let pair = reading_pair(file, words, at, counts.faces, cell(words, at.order + i));
     NextWall {
         first: pair.first,
         second: pair.second,
-        end: end,
+        end,
     }
 }
 
@@ -120,9 +110,7 @@ pub fn thickness_at(file: &[u8], words: &[u32], reals: &[f64], at: Regions, j: u
     requires fact_2 { j < length (readings_of (part_of file.now)) }
     ensures { result ≡ (reading (readings_of (part_of file.now)) (get_or (reading_order at words.now) j 0)).thickness }
 {
-    let order = at.order;
-    let thickness = at.thickness;
-    reals[thickness + cell(words, order + j)]
+    reals[at.thickness + cell(words, at.order + j)]
 }
 
 // The least thickness of the readings from place i to before place e of the order; infinity where there is none.
@@ -134,10 +122,8 @@ pub fn least(file: &[u8], words: &[u32], reals: &[f64], at: Regions, i: usize, e
 {
     let infinity = f64::from_bits(0x7ff0_0000_0000_0000);
     let mut x = infinity;
-    let mut j = i;
-    while j < e {
+    for j in i..e {
         x = min(x, thickness_at(file, words, reals, at, j));
-        j += 1;
     }
     x
 }

@@ -10,9 +10,9 @@ use Rattle.num_float.proofs.Order.{lt_trans, lt_irrefl, eq_lt_trans, eq_of_neith
 use Rattle.file_part.specs.Part.{Part}
 use Rattle.wall_ray.specs.declared.strike.Ray.{Ray}
 use Rattle.wall_ray.specs.declared.strike.Hit.{Hit}
-use Rattle.wall_ray.specs.declared.strike.Hit.TheVariants.{At, Nothing}
+use Rattle.std.specs.Prelude.{Option, Some, None}
 use Rattle.wall_ray.specs.Strike.{hit_time, struck}
-use Rattle.wall_ray.specs.Nearest.{improves, best, NearestAt, Nearest, hit_of, Answer}
+use Rattle.wall_ray.specs.Nearest.{strike_at, improves, best, NearestAt, Nearest, hit_of, Answer}
 use Rattle.wall_ray.proofs.StruckLaws.{struck_number}
 
 -- ---- any test and any times
@@ -56,23 +56,23 @@ module _ (is : ℕ → Bool) (time : ℕ → Float) where
       nearer q g (inr l) = h.none_nearer q l g
 
   -- one number more
-  step : (n : ℕ) (h : Hit) (b c : Bool) → Nearest is time n h → is n ≡ b → improves h (time n) ≡ c →
-      Nearest is time (suc n) (cond (b && c) (At n (time n)) h)
+  step : (n : ℕ) (h : Option Hit) (b c : Bool) → Nearest is time n h → is n ≡ b → improves h (time n) ≡ c →
+      Nearest is time (suc n) (cond (b && c) (Some (strike_at n (time n))) h)
   unfolding Nearest improves
-  step n Nothing true true w x y = new n x (λ q l g. absurd (contrary g (w q l)))
-  step n Nothing true false w x y = absurd (contrary refl y)
-  step n Nothing false c w x y = λ q l. none q (last q n l)
+  step n None true true w x y = new n x (λ q l g. absurd (contrary g (w q l)))
+  step n None true false w x y = absurd (contrary refl y)
+  step n None false c w x y = λ q l. none q (last q n l)
     where
       none : (q : ℕ) → (q ≡ n) ⊎ (q < n) → is q ≡ false
       none q (inl e) = ap is e ∙ x
       none q (inr m) = w q m
-  step n (At p t) true true w x y =
+  step n (Some h) true true w x y =
       new n x (λ q l g. (
-        refuted (lt (time q) (time n)) (λ u. contrary (lt_trans (time q) (time n) t u y) (w.none_nearer q l g)),
-        refuted (eq (time q) (time n)) (λ u. contrary (eq_lt_trans (time q) (time n) t u y) (w.none_nearer q l g)),
+        refuted (lt (time q) (time n)) (λ u. contrary (lt_trans (time q) (time n) h.t u y) (w.none_nearer q l g)),
+        refuted (eq (time q) (time n)) (λ u. contrary (eq_lt_trans (time q) (time n) h.t u y) (w.none_nearer q l g)),
       ))
-  step n (At p t) true false w x y = stays n p t w (λ g. y)
-  step n (At p t) false c w x y = stays n p t w (λ g. absurd (contrary g x))
+  step n (Some h) true false w x y = stays n h.polygon h.t w (λ g. y)
+  step n (Some h) false c w x y = stays n h.polygon h.t w (λ g. absurd (contrary g x))
 
   -- what is found is the nearest
   pub best_is_nearest : (n : ℕ) → Nearest is time n (best is time n)
@@ -90,15 +90,15 @@ module _ (is : ℕ → Bool) (time : ℕ → Float) where
         (ap (lt (time q)) (sym a.at) ∙ a.none_nearer q b.below b.passes))
         (ap (eq (time p)) (sym b.at) ∙ b.none_lower p l a.passes)
 
-    pub nearest_fixes : (g h : Hit) → Nearest is time n g → Nearest is time n h → g ≡ h
+    pub nearest_fixes : (g h : Option Hit) → Nearest is time n g → Nearest is time n h → g ≡ h
     unfolding Nearest
-    nearest_fixes Nothing Nothing a b = refl
-    nearest_fixes Nothing (At q u) a b = absurd (contrary b.passes (a q b.below))
-    nearest_fixes (At p t) Nothing a b = absurd (contrary a.passes (b p a.below))
-    nearest_fixes (At p t) (At q u) a b =
-        let same : p ≡ q = omega (arith, not_lower p q t u a b, not_lower q p u t b a) in
-        let level : t ≡ u = a.at ∙ ap time same ∙ sym b.at in
-        ap (λ (k : ℕ). At k t) same ∙ ap (At q) level
+    nearest_fixes None None a b = refl
+    nearest_fixes None (Some h) a b = absurd (contrary b.passes (a h.polygon b.below))
+    nearest_fixes (Some g) None a b = absurd (contrary a.passes (b g.polygon a.below))
+    nearest_fixes (Some g) (Some h) a b =
+        let same : g.polygon ≡ h.polygon = omega (arith, not_lower g.polygon h.polygon g.t h.t a b, not_lower h.polygon g.polygon h.t g.t b a) in
+        let level : g.t ≡ h.t = a.at ∙ ap time same ∙ sym b.at in
+        ap (λ (k : ℕ). Some (strike_at k g.t)) same ∙ ap (λ (s : Float). Some (strike_at h.polygon s)) level
 
 -- ---- a ray's hit
 module _ (t : Part) (r : Ray) where
@@ -106,19 +106,19 @@ module _ (t : Part) (r : Ray) where
   unfolding hit_of
   hit_is_nearest = best_is_nearest (struck t r) (hit_time t r) t.polygons
 
-  pub hit_answer : (h : Hit) → h ≡ hit_of t r → Answer t r h
+  pub hit_answer : (h : Option Hit) → h ≡ hit_of t r → Answer t r h
   hit_answer h e = record { scanned = e; nearest = subst (Nearest (struck t r) (hit_time t r) t.polygons) (sym e) hit_is_nearest }
 
-  pub hit_struck : (p : ℕ) (s : Float) → hit_of t r ≡ At p s → (p < t.polygons) × (struck t r p ≡ true) × (s ≡ hit_time t r p)
+  pub hit_struck : (h : Hit) → hit_of t r ≡ Some h → (h.polygon < t.polygons) × (struck t r h.polygon ≡ true) × (h.t ≡ hit_time t r h.polygon)
   unfolding Nearest
-  hit_struck p s e =
-      let w : NearestAt (struck t r) (hit_time t r) t.polygons p s = subst (Nearest (struck t r) (hit_time t r) t.polygons) e hit_is_nearest in
+  hit_struck h e =
+      let w : NearestAt (struck t r) (hit_time t r) t.polygons h.polygon h.t = subst (Nearest (struck t r) (hit_time t r) t.polygons) e hit_is_nearest in
       (w.below, w.passes, w.at)
 
-  pub hit_nothing : hit_of t r ≡ Nothing → (q : ℕ) → q < t.polygons → struck t r q ≡ false
+  pub hit_nothing : hit_of t r ≡ None → (q : ℕ) → q < t.polygons → struck t r q ≡ false
   unfolding Nearest
   hit_nothing e = subst (Nearest (struck t r) (hit_time t r) t.polygons) e hit_is_nearest
 
   -- nothing else is the nearest
-  pub only_hit : (h : Hit) → Nearest (struck t r) (hit_time t r) t.polygons h → h ≡ hit_of t r
+  pub only_hit : (h : Option Hit) → Nearest (struck t r) (hit_time t r) t.polygons h → h ≡ hit_of t r
   only_hit h w = nearest_fixes (struck t r) (hit_time t r) t.polygons (λ q l g. struck_number t r q g) h (hit_of t r) w hit_is_nearest

@@ -12,32 +12,32 @@ use Rattle.math.specs.Vector.{plus, times}
 use Rattle.file_part.specs.Part.{Part}
 use Rattle.wall_ray.specs.declared.strike.Ray.{Ray}
 use Rattle.wall_ray.specs.declared.strike.Hit.{Hit}
-use Rattle.wall_ray.specs.declared.strike.Hit.TheVariants.{At, Nothing}
+use Rattle.std.specs.Prelude.{Option, Some, None}
 use Rattle.wall_ray.specs.Strike.{hit_time, struck}
-use Rattle.wall_ray.specs.Nearest.{improves, best, hit_of, Answer, e_4, ray_from, is_nothing_of, is_open}
+use Rattle.wall_ray.specs.Nearest.{strike_at, improves, best, hit_of, Answer, e_4, ray_from, is_nothing_of, is_open}
 use Rattle.wall_ray.proofs.NearestLaws.{hit_answer}
 
 -- ---- the best of the polygons below p
 -- what a ray strikes first of them
-abbrev pub Scanned : Part → Ray → ℕ → Hit → Type 0
+abbrev pub Scanned : Part → Ray → ℕ → Option Hit → Type 0
 Scanned t r p h = h ≡ best (struck t r) (hit_time t r) p
 
-pub scan_none : (t : Part) (r : Ray) → Scanned t r 0 Nothing
+pub scan_none : (t : Part) (r : Ray) → Scanned t r 0 None
 unfolding best
 scan_none t r = refl
 
-pub scan_all : (t : Part) (r : Ray) (p P : ℕ) (h : Hit) → P ≡ t.polygons → p ≤ P → P ≤ p → Scanned t r p h → Answer t r h
+pub scan_all : (t : Part) (r : Ray) (p P : ℕ) (h : Option Hit) → P ≡ t.polygons → p ≤ P → P ≤ p → Scanned t r p h → Answer t r h
 unfolding hit_of
 scan_all t r p P h e a b w = hit_answer t r h (w ∙ ap (best (struck t r) (hit_time t r)) (le_antisymm a b ∙ e))
 
-module _ (is : ℕ → Bool) (time : ℕ → Float) (p : ℕ) (h : Hit) (w : h ≡ best is time p) where
+module _ (is : ℕ → Bool) (time : ℕ → Float) (p : ℕ) (h : Option Hit) (w : h ≡ best is time p) where
   pub best_skip : (is p && improves h (time p)) ≡ false → h ≡ best is time (p + 1)
   unfolding best
   best_skip f = rw (add-one, ← w, f)
 
-  pub best_take : (u : Float) → u ≡ time p → (is p && improves h (time p)) ≡ true → At p u ≡ best is time (p + 1)
+  pub best_take : (u : Float) → u ≡ time p → (is p && improves h (time p)) ≡ true → Some (strike_at p u) ≡ best is time (p + 1)
   unfolding best
-  best_take u e f = ap (At p) e ∙ rw (add-one, ← w, f)
+  best_take u e f = ap (λ (s : Float). Some (strike_at p s)) e ∙ rw (add-one, ← w, f)
 
 -- ---- whether any polygon is struck
 -- none below p
@@ -59,12 +59,12 @@ module _ (is : ℕ → Bool) (time : ℕ → Float) where
   later p zero h = rw add-zero h
   later p (suc k) h = ap (λ (n : ℕ). is_nothing_of (best is time n)) (add-suc p k) ∙ further (p + k) (later p k h)
     where
-      chosen : (b : Bool) (g h : Hit) → is_nothing_of g ≡ false → is_nothing_of h ≡ false → is_nothing_of (cond b g h) ≡ false
+      chosen : (b : Bool) (g h : Option Hit) → is_nothing_of g ≡ false → is_nothing_of h ≡ false → is_nothing_of (cond b g h) ≡ false
       chosen true g h x y = x
       chosen false g h x y = y
 
       further : (n : ℕ) → is_nothing_of (best is time n) ≡ false → is_nothing_of (best is time (suc n)) ≡ false
-      further n h = chosen (is n && improves (best is time n) (time n)) (At n (time n)) (best is time n) refl h
+      further n h = chosen (is n && improves (best is time n) (time n)) (Some (strike_at n (time n))) (best is time n) refl h
 
   pub some_struck : (p n : ℕ) (b : Bool) → p < n → is_nothing_of (best is time p) ≡ true → b ≡ is p → b ≡ true → false ≡ is_nothing_of (best is time n)
   unfolding best is_nothing_of improves
@@ -72,9 +72,9 @@ module _ (is : ℕ → Bool) (time : ℕ → Float) where
       let far : (p + 1) + (n - (p + 1)) ≡ n = omega (arith, l) in
       sym (ap (λ (k : ℕ). is_nothing_of (best is time k)) (sym far) ∙ later (p + 1) (n - (p + 1)) (first (best is time p) refl h))
     where
-      first : (g : Hit) → best is time p ≡ g → is_nothing_of g ≡ true → is_nothing_of (best is time (p + 1)) ≡ false
-      first Nothing q x = rw (add-one, ← e, f, q)
-      first (At k t) q x = absurd (contrary x refl)
+      first : (g : Option Hit) → best is time p ≡ g → is_nothing_of g ≡ true → is_nothing_of (best is time (p + 1)) ≡ false
+      first None q x = rw (add-one, ← e, f, q)
+      first (Some g) q x = absurd (contrary x refl)
 
 -- none is left to try
 pub none_left : (t : Part) (r : Ray) (p P : ℕ) → P ≡ t.polygons → p ≤ P → P ≤ p → Missed t r p → true ≡ is_nothing_of (hit_of t r)

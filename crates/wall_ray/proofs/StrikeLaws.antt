@@ -1,18 +1,13 @@
 -- The test of a direction that runs along a plane, in the words of the code.
-use mathlib.Core.Path.{◌≡◌, refl, sym, ap, ◌∙◌, subst}
-use mathlib.Core.Bool.{Bool, true, false, not, ◌&&◌}
-use mathlib.Core.List.{List}
+use mathlib.Core.Path.{◌≡◌, refl, sym}
+use mathlib.Core.Bool.{true, false, ◌&&◌}
 use Prim.Native.Nat.{ℕ, ◌+◌, ◌*◌}
 use native.Mathlib.Omega.{arith}
-use lib.Dec.{T, ltb}
-use lib.Ieee.{Float, nan, inf, fin, binary64, up, down, lt, neg, of_bits, is_nan, nan_bits}
-use lib.Ieee.Bits.{nan_bits_is}
+use lib.Dec.{ltb}
+use lib.Ieee.{Float, nan, inf, fin, up, down, lt, neg, of_bits}
 use borrow.Author.Tests.{ltb-true, lt-ltb}
-use Rattle.num_float.specs.Within.{Within}
 use Rattle.num_float.proofs.Tests.{contrary, and_true, and_left, and_right, same_test}
 use Rattle.num_real.specs.Select.{abs_of}
-use Rattle.num_real.proofs.BitsLaws.{finite→no_nan}
-use Rattle.file_field.specs.Field.{u64_at, f64_at}
 use Rattle.math.specs.Vector.{zero}
 use Rattle.wall_ray.specs.Strike.{e_12}
 

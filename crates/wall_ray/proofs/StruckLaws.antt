@@ -3,7 +3,6 @@ use mathlib.Core.Path.{◌≡◌, refl, sym, ap, ◌∙◌, subst}
 use mathlib.Core.Bool.{Bool, true, false, not, ◌&&◌}
 use mathlib.Core.List.{List}
 use Prim.Native.Nat.{ℕ, ◌+◌, ◌≤◌, ◌<◌}
-use native.Mathlib.Omega.{arith}
 use native.Mathlib.Nat.{le_antisymm}
 use lib.Ieee.{Float, lt, is_nan}
 use Rattle.num_float.proofs.Tests.{and_left, and_right}
@@ -14,7 +13,7 @@ use Rattle.num_real.specs.Select.{abs_of}
 use Rattle.math.specs.declared.Vec3.{Vec3}
 use Rattle.math.specs.Vector.{dot_of}
 use Rattle.math.specs.Vector as vector
-use Rattle.file_part.specs.Layout.{vertex_count_of, polygon_count_of, entry_at}
+use Rattle.file_part.specs.Layout.{vertex_count_of, entry_at}
 use Rattle.file_part.specs.Part.{Part, first_at, count_at_of, polygon_at, part_of}
 use Rattle.solid_polygon.specs.declared.polygon.Plane.{Plane}
 use Rattle.solid_polygon.specs.Work.{corner_at}

@@ -8,7 +8,6 @@ ghost use Rattle.file_part.specs.Part.{part_of};
 ghost use Rattle.solid_faces.specs.Faces.{Checked};
 ghost use Rattle.solid_faces.specs.Kept.{KeptPlanes};
 ghost use Rattle.wall_ray.specs.Strike.{e_12, hit_time, inverse_of, struck};
-ghost use Rattle.wall_ray.specs.Nearest.{is_nothing_of};
 ghost use Rattle.wall_ray.specs.Work.{comes, tried};
 
 use crate::slab::is_run_reached;
@@ -17,26 +16,17 @@ use file_part::read::{entry_at, first_vertex, run_length};
 use math::Vec3;
 
 // Whether a strike of p at t comes before what is kept: sooner, or as soon and of a lower number.
-fn comes_first(best: Hit, p: usize, t: f64) -> bool
+fn comes_first(best: Option<Hit>, p: usize, t: f64) -> bool
     ensures { result ≡ comes best p t }
 {
     match best {
-        Hit::At { polygon: q, t: s } => (t < s) | ((t == s) & (p < q)),
-        Hit::Nothing => true,
-    }
-}
-
-pub fn is_nothing(best: Hit) -> bool
-    ensures { result ≡ is_nothing_of best }
-{
-    match best {
-        Hit::At { polygon: _, t: _ } => false,
-        Hit::Nothing => true,
+        Some(hit) => (t < hit.t) | ((t == hit.t) & (p < hit.polygon)),
+        None => true,
     }
 }
 
 // The three tests that need no corner.
-fn is_next(denom: f64, t: f64, best: Hit, p: usize) -> bool
+fn is_next(denom: f64, t: f64, best: Option<Hit>, p: usize) -> bool
     ensures { result ≡ (not (lt (abs_of denom) e_12) && (not (lt t zero) && comes best p t)) }
 {
     !is_parallel(denom) & (!(t < 0.0) & comes_first(best, p, t))
@@ -49,9 +39,9 @@ pub fn try_one(
     vertices: usize,
     ray: Ray,
     inv: Vec3,
-    best: Hit,
+    best: Option<Hit>,
     p: usize,
-) -> Hit
+) -> Option<Hit>
     requires checked_1 { Checked file.now }
     requires checked_2 { KeptPlanes (part_of file.now) (polygon_count_of file.now) planes.now }
     requires vertices_value_1 { vertices ≡ vertex_count_of file.now }
@@ -75,5 +65,5 @@ pub fn try_one(
     if !is_run_reached(file, first, n, ray.origin, inv, t) {
         return best;
     }
-    Hit::At { polygon: p, t: t }
+    Some(Hit { polygon: p, t })
 }

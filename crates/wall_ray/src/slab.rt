@@ -12,6 +12,7 @@ use solid_boxes::bounds::Bounds;
 use solid_boxes::own::run_box;
 
 // What is left of a ray, in lengths of its direction.
+// No Option: a span is empty where its end is before its start, by the formula's own numbers.
 #[derive(Clone, Copy)]
 pub struct Span {
     pub t0: f64,

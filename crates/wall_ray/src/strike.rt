@@ -19,11 +19,11 @@ pub struct Ray {
     pub dir: Vec3,
 }
 
-// What a ray strikes first: the polygon, and how far along the ray it is met, in lengths of the ray's direction.
+// What a ray strikes first, where it strikes something: the polygon, and how far along the ray it is met, in lengths of the ray's direction.
 #[derive(Clone, Copy)]
-pub enum Hit {
-    Nothing,
-    At { polygon: usize, t: f64 },
+pub struct Hit {
+    pub polygon: usize,
+    pub t: f64,
 }
 
 // The plane of polygon p, as it is kept.
@@ -38,7 +38,7 @@ pub fn plane_at(planes: &[f64], p: usize) -> Plane
         z: planes[at + 2],
     };
     Plane {
-        normal: normal,
+        normal,
         w: planes[at + 3],
     }
 }
@@ -67,43 +67,41 @@ impl Ray {
     }
 }
 
-impl Hit {
-    // Whether a strike at t comes before what is kept.
-    pub fn is_improved(self, t: f64) -> bool
-        ensures { result ≡ improves self t }
-    {
-        match self {
-            Hit::Nothing => true,
-            Hit::At { polygon: _, t: s } => t < s,
-        }
+// Whether a strike at t comes before what is kept.
+pub fn is_improved(best: Option<Hit>, t: f64) -> bool
+    ensures { result ≡ improves best t }
+{
+    match best {
+        Some(hit) => t < hit.t,
+        None => true,
     }
+}
 
-    // The polygon, or a number for none.
-    pub fn polygon_or(self, none: usize) -> usize
-        ensures { result ≡ polygon_or none self }
-    {
-        match self {
-            Hit::Nothing => none,
-            Hit::At { polygon: p, t: _ } => p,
-        }
+// The polygon, or a number for none.
+pub fn polygon_or(hit: Option<Hit>, none: usize) -> usize
+    ensures { result ≡ polygon_or none hit }
+{
+    match hit {
+        Some(hit) => hit.polygon,
+        None => none,
     }
+}
 
-    // t, or 0.0 for none.
-    pub fn time_or_zero(self) -> f64
-        ensures { result ≡ time_or_zero self }
-    {
-        match self {
-            Hit::Nothing => 0.0,
-            Hit::At { polygon: _, t: s } => s,
-        }
+// t, or 0.0 for none.
+pub fn time_or_zero(hit: Option<Hit>) -> f64
+    ensures { result ≡ time_or_zero hit }
+{
+    match hit {
+        Some(hit) => hit.t,
+        None => 0.0,
     }
 }
 
 // Whether a plane that is met at t comes before what is kept: the three tests that need no corner.
-pub fn is_reached(denom: f64, t: f64, best: Hit) -> bool
+pub fn is_reached(denom: f64, t: f64, best: Option<Hit>) -> bool
     ensures { result ≡ (not (lt (abs_of denom) e_12) && (not (lt t zero) && improves best t)) }
 {
-    !is_parallel(denom) & (!(t < 0.0) & best.is_improved(t))
+    !is_parallel(denom) & (!(t < 0.0) & is_improved(best, t))
 }
 
 // Whether q lies on the inner side of side k of the polygon of n corners from `first` on.
@@ -122,12 +120,10 @@ pub fn is_inside(file: &[u8], first: usize, n: usize, normal: Vec3, q: Vec3) -> 
     requires { Corners file.now first n }
     ensures { result ≡ all_below n (is_within (corner_at file.now first) n normal q) }
 {
-    let mut k: usize = 0;
-    while k < n {
+    for k in 0..n {
         if !is_within(file, first, n, normal, q, k) {
             return false;
         }
-        k += 1;
     }
     true
 }

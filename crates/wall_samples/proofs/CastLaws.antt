@@ -20,7 +20,7 @@ use Rattle.scratch.specs.declared.regions.Regions.{Regions}
 use Rattle.scratch.specs.Standing.{Standing}
 use Rattle.wall_tree.specs.wall_ray.specs.declared.strike.Ray.{Ray}
 use Rattle.wall_tree.specs.wall_ray.specs.declared.strike.Hit.{Hit}
-use Rattle.wall_tree.specs.wall_ray.specs.declared.strike.Hit.TheVariants.{At, Nothing}
+use Rattle.std.specs.Prelude.{Option, Some, None}
 use Rattle.wall_tree.specs.wall_ray.specs.Nearest.{hit_of, Nearest, Answer}
 use Rattle.wall_samples.specs.Samples.{e_6, polygon_centroid, inward, ray_of, faces_back, reading_of, readings_from}
 use Rattle.wall_samples.specs.Work.{HitBelow, back_hit, taken}
@@ -47,46 +47,46 @@ module _ (s : List ℕ) (at : Regions) (words : List ℕ) (reals : List Float) (
   back_is p q b lp lq e = e ∙ rw (h.the_reals.planes.each q lq, h.the_reals.planes.each p lp)
 
 -- ---- the hit
-pub hit_below : (t : Part) (r : Ray) (h : Hit) (n : ℕ) → n ≡ t.polygons → Answer t r h → HitBelow n h
+pub hit_below : (t : Part) (r : Ray) (h : Option Hit) (n : ℕ) → n ≡ t.polygons → Answer t r h → HitBelow n h
 unfolding HitBelow Nearest
-hit_below t r (At q s) n e a = omega (arith, a.nearest.below, e)
-hit_below t r Nothing n e a = tt
+hit_below t r (Some h) n e a = omega (arith, a.nearest.below, e)
+hit_below t r None n e a = tt
 
-pub hit_at : (n q : ℕ) (s : Float) (h : Hit) → HitBelow n h → h ≡ At q s → q < n
+pub hit_at : (n : ℕ) (x : Hit) (h : Option Hit) → HitBelow n h → h ≡ Some x → x.polygon < n
 unfolding HitBelow
-hit_at n q s h b e = subst (HitBelow n) e b
+hit_at n x h b e = subst (HitBelow n) e b
 
-pub hit_none : (n : ℕ) → HitBelow n Nothing
+pub hit_none : (n : ℕ) → HitBelow n None
 unfolding HitBelow
 hit_none n = tt
 
-pub hit_back : (t : Part) (p q : ℕ) (s : Float) (b : Bool) → b ≡ faces_back t p q → b ≡ true → At q s ≡ back_hit t p (At q s)
+pub hit_back : (t : Part) (p : ℕ) (x : Hit) (b : Bool) → b ≡ faces_back t p x.polygon → b ≡ true → Some x ≡ back_hit t p (Some x)
 unfolding back_hit
-hit_back t p q s b e h = rw (← e, h)
+hit_back t p x b e h = rw (← e, h)
 
-pub hit_away : (t : Part) (p q : ℕ) (s : Float) (b : Bool) → b ≡ faces_back t p q → b ≡ false → Nothing ≡ back_hit t p (At q s)
+pub hit_away : (t : Part) (p : ℕ) (x : Hit) (b : Bool) → b ≡ faces_back t p x.polygon → b ≡ false → None ≡ back_hit t p (Some x)
 unfolding back_hit
-hit_away t p q s b e h = rw (← e, h)
+hit_away t p x b e h = rw (← e, h)
 
-pub hit_nothing : (t : Part) (p : ℕ) → Nothing ≡ back_hit t p Nothing
+pub hit_nothing : (t : Part) (p : ℕ) → None ≡ back_hit t p None
 unfolding back_hit
 hit_nothing t p = refl
 
 -- the hit that the code has is the ray's
-pub cast_is : (t : Part) (p : ℕ) (r : Ray) (h x : Hit) → r ≡ ray_of t p → Answer t r h → x ≡ back_hit t p h → x ≡ back_hit t p (hit_of t (ray_of t p))
+pub cast_is : (t : Part) (p : ℕ) (r : Ray) (h x : Option Hit) → r ≡ ray_of t p → Answer t r h → x ≡ back_hit t p h → x ≡ back_hit t p (hit_of t (ray_of t p))
 cast_is t p r h x e a k = k ∙ ap (back_hit t p) (a.scanned ∙ ap (hit_of t) e)
 
 -- the readings of a polygon's ray are those of the hit that faces back
-taken_if : (t : Part) (p q : ℕ) (s : Float) (b : Bool) → cond b (taken p (At q s)) [] ≡ taken p (cond b (At q s) Nothing)
+taken_if : (t : Part) (p : ℕ) (x : Hit) (b : Bool) → cond b (taken p (Some x)) [] ≡ taken p (cond b (Some x) None)
 unfolding taken
-taken_if t p q s true = refl
-taken_if t p q s false = refl
+taken_if t p x true = refl
+taken_if t p x false = refl
 
-taken_back : (t : Part) (p : ℕ) (h : Hit) → reading_of t p h ≡ taken p (back_hit t p h)
+taken_back : (t : Part) (p : ℕ) (h : Option Hit) → reading_of t p h ≡ taken p (back_hit t p h)
 unfolding reading_of back_hit taken
-taken_back t p (At q s) = taken_if t p q s (faces_back t p q)
-taken_back t p Nothing = refl
+taken_back t p (Some x) = taken_if t p x (faces_back t p x.polygon)
+taken_back t p None = refl
 
-pub readings_from_lem : (t : Part) (p : ℕ) (h : Hit) → h ≡ back_hit t p (hit_of t (ray_of t p)) → readings_from t p ≡ taken p h
+pub readings_from_lem : (t : Part) (p : ℕ) (h : Option Hit) → h ≡ back_hit t p (hit_of t (ray_of t p)) → readings_from t p ≡ taken p h
 unfolding readings_from
 readings_from_lem t p h e = taken_back t p (hit_of t (ray_of t p)) ∙ ap (taken p) (sym e)

@@ -3,17 +3,17 @@ use mathlib.Core.Path.{◌≡◌, refl, sym, ap, ◌∙◌, subst}
 use mathlib.Core.Bool.{false, ◌&&◌, cond}
 use mathlib.Core.List.{List, [], ◌++◌}
 use mathlib.Core.Logic.{◌⊎◌, inl, inr}
-use Prim.Native.Nat.{ℕ, zero, suc, ◌+◌, ◌*◌, ◌/◌, ◌≤◌, ◌<◌}
+use Prim.Native.Nat.{ℕ, zero, suc, ◌+◌, ◌*◌, ◌≤◌, ◌<◌}
 use native.Mathlib.Omega.{arith}
 use native.Mathlib.Numerals.{add-one}
-use native.Mathlib.Nat.{le_antisymm, div-le_self, mul-le-mul_right, mul-le-mul_left, mul-one, le_trans, add-mul}
+use native.Mathlib.Nat.{le_antisymm, mul-le-mul_right, mul-le-mul_left, mul-one, le_trans, add-mul}
 use lib.Dec.{ltb}
 use lib.ListN.{length, get_or, length-append}
 use borrow.Author.Tests.{ltb-false, lt-ltb, le-ltb}
 use Rattle.num_float.proofs.Tests.{lt_or_ge}
 use Rattle.file_part.specs.Part.{Part}
 use Rattle.wall_tree.specs.wall_ray.specs.declared.strike.Hit.{Hit}
-use Rattle.wall_tree.specs.wall_ray.specs.declared.strike.Hit.TheVariants.{At, Nothing}
+use Rattle.std.specs.Prelude.{Option, Some, None}
 use Rattle.wall_tree.specs.wall_ray.specs.Nearest.{hit_of}
 use Rattle.wall_starts.specs.Starts.{wanted, face_polygons, ordered_polygons, step_of}
 use Rattle.wall_starts.proofs.ShareLaws.{step_least}
@@ -24,10 +24,6 @@ use Rattle.wall_samples.specs.Samples.{ray_of, readings_from, picks_to, face_rea
 use Rattle.wall_samples.specs.Work.{back_hit, taken}
 use Rattle.wall_samples.proofs.CastLaws.{readings_from_lem}
 
--- ---- the step
-pub step_most : (n want : ℕ) → n / want ≤ n + 1
-step_most n want = omega (arith, div-le_self n want)
-
 -- a step is one place at least
 pub step_up : (i step : ℕ) → 1 ≤ step → i ≤ i * step
 step_up i step h = subst (λ (k : ℕ). k ≤ i * step) (mul-one i) (mul-le-mul_left i h)
@@ -36,10 +32,10 @@ pub step_next : (i step : ℕ) → i * step + step ≡ (i + 1) * step
 step_next i step = omega (arith, add-mul i 1 step)
 
 -- ---- one pick more
-taken_few : (p : ℕ) (h : Hit) → length (taken p h) ≤ 1
+taken_few : (p : ℕ) (h : Option Hit) → length (taken p h) ≤ 1
 unfolding taken
-taken_few p (At q s) = omega arith
-taken_few p Nothing = omega arith
+taken_few p (Some h) = omega arith
+taken_few p None = omega arith
 
 pub reading_few : (t : Part) (q : ℕ) → length (readings_from t q) ≤ 1
 reading_few t q =

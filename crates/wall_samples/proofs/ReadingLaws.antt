@@ -23,7 +23,7 @@ use Rattle.scratch.specs.Standing.{Standing}
 use Rattle.scratch.proofs.StandingLaws.{placed_polygons}
 use Rattle.scratch.proofs.WordsLaws.{face_at_lem}
 use Rattle.wall_tree.specs.wall_ray.specs.declared.strike.Hit.{Hit}
-use Rattle.wall_tree.specs.wall_ray.specs.declared.strike.Hit.TheVariants.{At, Nothing}
+use Rattle.std.specs.Prelude.{Option, Some, None}
 use Rattle.wall_tree.specs.wall_ray.specs.Nearest.{hit_of}
 use Rattle.wall_tree.specs.wall_ray.proofs.NearestLaws.{hit_struck}
 use Rattle.wall_starts.specs.Starts.{total_area_of, wanted, ordered_polygons, step_of}
@@ -42,7 +42,8 @@ either t P false x y = y
 
 -- each reading is its own ray's hit: what holds of every hit that faces back, of the ray of a polygon of the part, holds of each reading
 module _ (t : Part) (Q : Reading → Type 0)
-    (hits : (p q : ℕ) (s : Float) → p < t.polygons → hit_of t (ray_of t p) ≡ At q s → faces_back t p q ≡ true → Q (record { polygon = p; hit = q; thickness = add binary64 s e_6 })) where
+    (hits : (p : ℕ) (h : Hit) → p < t.polygons → hit_of t (ray_of t p) ≡ Some h → faces_back t p h.polygon ≡ true →
+    Q (record { polygon = p; hit = h.polygon; thickness = add binary64 h.t e_6 })) where
   abbrev All : List Reading → Type 0
   All l = (k : ℕ) → k < length l → Q (reading l k)
 
@@ -63,14 +64,14 @@ module _ (t : Part) (Q : Reading → Type 0)
           let there : reading (l ++ m) k ≡ reading m (k - length l) = ap (reading (l ++ m)) (sym place) ∙ get_or-append-add l m (k - length l) none in
           subst Q (sym there) (b (k - length l) (omega (arith, above, h, length-append l m)))
 
-  hit_all : (p : ℕ) (h : Hit) → p < t.polygons → hit_of t (ray_of t p) ≡ h → All (reading_of t p h)
+  hit_all : (p : ℕ) (h : Option Hit) → p < t.polygons → hit_of t (ray_of t p) ≡ h → All (reading_of t p h)
   unfolding reading_of
-  hit_all p (At q s) l e = go (faces_back t p q) refl
+  hit_all p (Some h) l e = go (faces_back t p h.polygon) refl
     where
-      go : (b : Bool) → faces_back t p q ≡ b → All (cond b (record { polygon = p; hit = q; thickness = add binary64 s e_6 } ∷ []) [])
-      go true back = one_all (record { polygon = p; hit = q; thickness = add binary64 s e_6 }) (hits p q s l e back)
+      go : (b : Bool) → faces_back t p h.polygon ≡ b → All (cond b (record { polygon = p; hit = h.polygon; thickness = add binary64 h.t e_6 } ∷ []) [])
+      go true back = one_all (record { polygon = p; hit = h.polygon; thickness = add binary64 h.t e_6 }) (hits p h l e back)
       go false back = none_all
-  hit_all p Nothing l e = none_all
+  hit_all p None l e = none_all
 
   from_all : (p : ℕ) → p < t.polygons → All (readings_from t p)
   unfolding readings_from
@@ -106,7 +107,7 @@ pub record Inside (t : Part) (r : Reading) : Type 0 where
   pub hit : r.hit < t.polygons
 
 pub readings_inside : (t : Part) (k : ℕ) → k < length (readings_of t) → Inside t (reading (readings_of t) k)
-readings_inside t = readings_each t (Inside t) (λ p q s l e back. record { polygon = l; hit = (hit_struck t (ray_of t p) q s e).0 })
+readings_inside t = readings_each t (Inside t) (λ p h l e back. record { polygon = l; hit = (hit_struck t (ray_of t p) h e).0 })
 
 -- no more than polygons
 pub readings_most : (t : Part) → length (readings_of t) ≤ t.polygons

@@ -15,7 +15,7 @@ use Rattle.file_part.specs.Part.{part_of}
 use Rattle.scratch.specs.declared.regions.Regions.{Regions}
 use Rattle.scratch.specs.Standing.{Standing}
 use Rattle.wall_tree.specs.wall_ray.specs.declared.strike.Hit.{Hit}
-use Rattle.wall_tree.specs.wall_ray.specs.declared.strike.Hit.TheVariants.{At, Nothing}
+use Rattle.std.specs.Prelude.{Option, Some, None}
 use Rattle.wall_tree.specs.wall_ray.specs.Nearest.{hit_of}
 use Rattle.wall_starts.specs.Starts.{step_of}
 use Rattle.wall_samples.specs.declared.cast.Reading.{Reading}
@@ -26,26 +26,26 @@ use Rattle.wall_samples.proofs.StoredLaws.{added_none, added_then, added_one}
 use Rattle.wall_samples.proofs.PicksLaws.{picks_none, picks_more, picks_all, picks_few, step_up}
 
 -- ---- one ray
-taken_at : (q r : ℕ) (x : Float) → taken q (At r x) ≡ record { polygon = q; hit = r; thickness = add binary64 x e_6 } ∷ []
+taken_at : (q : ℕ) (x : Hit) → taken q (Some x) ≡ record { polygon = q; hit = x.polygon; thickness = add binary64 x.t e_6 } ∷ []
 unfolding taken
-taken_at q r x = refl
+taken_at q x = refl
 
-taken_nothing : (q : ℕ) → taken q Nothing ≡ []
+taken_nothing : (q : ℕ) → taken q None ≡ []
 unfolding taken
 taken_nothing q = refl
 
-module _ (s : List ℕ) (at : Regions) (k q : ℕ) (found : Hit) (is : found ≡ back_hit (part_of s) q (hit_of (part_of s) (ray_of (part_of s) q))) where
-  pub pick_put : (r : ℕ) (x : Float) (words words' : List ℕ) (reals reals' : List Float) → Standing s at words reals → k < at.polygons → q < at.polygons → found ≡ At r x →
-      words' ≡ put_polygons at k (record { polygon = q; hit = r; thickness = add binary64 x e_6 }) words →
-      reals' ≡ put_measures at k (record { polygon = q; hit = r; thickness = add binary64 x e_6 }) (get_or reals (at.areas + q) nan) reals →
+module _ (s : List ℕ) (at : Regions) (k q : ℕ) (found : Option Hit) (is : found ≡ back_hit (part_of s) q (hit_of (part_of s) (ray_of (part_of s) q))) where
+  pub pick_put : (x : Hit) (words words' : List ℕ) (reals reals' : List Float) → Standing s at words reals → k < at.polygons → q < at.polygons → found ≡ Some x →
+      words' ≡ put_polygons at k (record { polygon = q; hit = x.polygon; thickness = add binary64 x.t e_6 }) words →
+      reals' ≡ put_measures at k (record { polygon = q; hit = x.polygon; thickness = add binary64 x.t e_6 }) (get_or reals (at.areas + q) nan) reals →
       Added (part_of s) at at.order k (readings_from (part_of s) q) words words' reals reals' (k + 1)
-  pick_put r x words words' reals reals' h few low there ew er =
+  pick_put x words words' reals reals' h few low there ew er =
       let laid = h.placed.laid in
-      subst (λ (l : List Reading). Added (part_of s) at at.order k l words words' reals reals' (k + 1)) (sym (readings_from_lem (part_of s) q found is ∙ ap (taken q) there ∙ taken_at q r x))
-      (added_one (part_of s) at laid k (record { polygon = q; hit = r; thickness = add binary64 x e_6 }) words words' reals reals' (get_or reals (at.areas + q) nan) few h.words_room h.reals_room
+      subst (λ (l : List Reading). Added (part_of s) at at.order k l words words' reals reals' (k + 1)) (sym (readings_from_lem (part_of s) q found is ∙ ap (taken q) there ∙ taken_at q x))
+      (added_one (part_of s) at laid k (record { polygon = q; hit = x.polygon; thickness = add binary64 x.t e_6 }) words words' reals reals' (get_or reals (at.areas + q) nan) few h.words_room h.reals_room
       (sym (part_place at.areas at.totals reals nan q (omega (arith, low, laid))) ∙ h.the_reals.areas.each q low) ew er)
 
-  pub pick_none : (words : List ℕ) (reals : List Float) → found ≡ Nothing → Added (part_of s) at at.order k (readings_from (part_of s) q) words words reals reals k
+  pub pick_none : (words : List ℕ) (reals : List Float) → found ≡ None → Added (part_of s) at at.order k (readings_from (part_of s) q) words words reals reals k
   pick_none words reals there =
       subst (λ (l : List Reading). Added (part_of s) at at.order k l words words reals reals k) (sym (readings_from_lem (part_of s) q found is ∙ ap (taken q) there ∙ taken_nothing q))
       (added_none (part_of s) at at.order k words reals)

@@ -1,5 +1,5 @@
 -- The thickness readings of a part: `thickness_samples`. Definitions only.
-use Rattle.std.specs.Prelude.{Bool, cond, List, [], ◌∷◌, ◌++◌, ℕ, zero, suc, ◌*◌, ltb, length, get_or, Float}
+use Rattle.std.specs.Prelude.{Bool, cond, List, [], ◌∷◌, ◌++◌, ℕ, zero, suc, ◌*◌, ltb, length, get_or, Float, Option, Some, None}
 use Rattle.std.specs.Float.{binary64}
 use Rattle.std.specs.Float.Ieee.{add, neg, lt, le, of_bits}
 use Rattle.math.specs.declared.Vec3.{Vec3}
@@ -10,7 +10,6 @@ use Rattle.solid_polygon.specs.Polygon.{half, centroid_of}
 use Rattle.solid_faces.specs.Faces.{polygon_corner, polygon_plane, polygon_area, face_number, faces_of}
 use Rattle.wall_tree.specs.wall_ray.specs.declared.strike.Ray.{Ray}
 use Rattle.wall_tree.specs.wall_ray.specs.declared.strike.Hit.{Hit}
-use Rattle.wall_tree.specs.wall_ray.specs.declared.strike.Hit.TheVariants.{At, Nothing}
 use Rattle.wall_tree.specs.wall_ray.specs.Nearest.{hit_of}
 use Rattle.wall_starts.specs.Starts.{total_area_of, wanted, ordered_polygons, step_of}
 use Rattle.wall_samples.specs.declared.sample.Sample.{Sample}
@@ -39,9 +38,9 @@ faces_back t p q = lt (dot_of (polygon_plane t q).normal (polygon_plane t p).nor
 
 -- the readings, none or one, of a polygon's ray: the thickness is t + 1e-6. Face, hit face, area, point and normal follow from the two polygons
 -- (`sample_of`).
-unfoldable pub reading_of : Part → ℕ → Hit → List Reading
-reading_of t p (At q s) = cond (faces_back t p q) (record { polygon = p; hit = q; thickness = add binary64 s e_6 } ∷ []) []
-reading_of t p Nothing = []
+unfoldable pub reading_of : Part → ℕ → Option Hit → List Reading
+reading_of t p (Some h) = cond (faces_back t p h.polygon) (record { polygon = p; hit = h.polygon; thickness = add binary64 h.t e_6 } ∷ []) []
+reading_of t p None = []
 
 unfoldable pub readings_from : Part → ℕ → List Reading
 readings_from t p = reading_of t p (hit_of t (ray_of t p))

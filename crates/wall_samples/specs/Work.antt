@@ -1,5 +1,5 @@
 -- What the functions of this crate leave on the way. A reader may pass over it.
-use Rattle.std.specs.Prelude.{◌≡◌, cond, List, [], ◌∷◌, ◌++◌, ℕ, ◌+◌, ◌<◌, length, get_or, set, Float}
+use Rattle.std.specs.Prelude.{◌≡◌, cond, List, [], ◌∷◌, ◌++◌, ℕ, ◌+◌, ◌<◌, length, get_or, set, Float, Option, Some, None}
 use Rattle.std.specs.Float.{nan, binary64}
 use Rattle.std.specs.Float.Ieee.{add}
 use Rattle.list_laws.specs.Region.{part, Outside}
@@ -7,7 +7,6 @@ use Rattle.file_part.specs.Part.{Part, part_of}
 use Rattle.scratch.specs.declared.regions.Regions.{Regions}
 use Rattle.scratch.specs.Standing.{Standing}
 use Rattle.wall_tree.specs.wall_ray.specs.declared.strike.Hit.{Hit}
-use Rattle.wall_tree.specs.wall_ray.specs.declared.strike.Hit.TheVariants.{At, Nothing}
 use Rattle.wall_starts.specs.Work.{KeptFalling}
 use Rattle.wall_samples.specs.declared.cast.Reading.{Reading}
 use Rattle.wall_samples.specs.Samples.{e_6, faces_back}
@@ -15,19 +14,19 @@ use Rattle.wall_samples.specs.Stored.{Stored}
 
 -- ---- one ray
 -- what the ray of polygon p hits, where that faces back ..
-unfoldable pub back_hit : Part → ℕ → Hit → Hit
-back_hit t p (At q s) = cond (faces_back t p q) (At q s) Nothing
-back_hit t p Nothing = Nothing
+unfoldable pub back_hit : Part → ℕ → Option Hit → Option Hit
+back_hit t p (Some h) = cond (faces_back t p h.polygon) (Some h) None
+back_hit t p None = None
 
 -- .. and the reading of such a hit (`readings_from_lem` of the laws)
-unfoldable pub taken : ℕ → Hit → List Reading
-taken p (At q s) = record { polygon = p; hit = q; thickness = add binary64 s e_6 } ∷ []
-taken p Nothing = []
+unfoldable pub taken : ℕ → Option Hit → List Reading
+taken p (Some h) = record { polygon = p; hit = h.polygon; thickness = add binary64 h.t e_6 } ∷ []
+taken p None = []
 
 -- what is hit is a polygon of n
-unfoldable pub HitBelow : ℕ → Hit → Type 0
-HitBelow n (At q s) = q < n
-HitBelow n Nothing = Unit {0}
+unfoldable pub HitBelow : ℕ → Option Hit → Type 0
+HitBelow n (Some h) = h.polygon < n
+HitBelow n None = Unit {0}
 
 -- ---- one reading more
 -- both polygons of r as those of reading k

@@ -45,9 +45,7 @@ fn ray_of(file: &[u8], words: &[u32], reals: &[f64], at: Regions, p: usize) -> R
     ensures { result ≡ ray_of (part_of file.now) p }
 {
     let c = centroid_of(file, at.vertices, p);
-    let start: usize = 0;
-    let areas = at.areas;
-    let inward = plane_at(&reals[start..areas], p).normal.mul(-1.0);
+    let inward = plane_at(&reals[0..at.areas], p).normal.mul(-1.0);
     Ray {
         origin: c.add(inward.mul(1e-6)),
         dir: inward,
@@ -64,25 +62,15 @@ fn faces_back(planes: &[f64], p: usize, q: usize) -> bool
 }
 
 // What the ray of polygon p hits, where that faces back.
-pub fn reading_from(file: &[u8], words: &[u32], reals: &[f64], at: Regions, p: usize) -> Hit
+pub fn reading_from(file: &[u8], words: &[u32], reals: &[f64], at: Regions, p: usize) -> Option<Hit>
     requires fact_1 { Standing file.now at words.now reals.now }
     requires fact_2 { p < at.polygons }
     ensures value { result ≡ back_hit (part_of file.now) p (hit_of (part_of file.now) (ray_of (part_of file.now) p)) }
     ensures hit_below { HitBelow at.polygons result }
 {
-    let hit = raycast(file, words, reals, at, ray_of(file, words, reals, at, p));
-    match hit {
-        Hit::At { polygon, t } => {
-            let start: usize = 0;
-            let areas = at.areas;
-            if faces_back(&reals[start..areas], p, polygon) {
-                return Hit::At {
-                    polygon: polygon,
-                    t: t,
-                };
-            }
-            Hit::Nothing
-        }
-        Hit::Nothing => Hit::Nothing,
+    let hit = raycast(file, words, reals, at, ray_of(file, words, reals, at, p))?;
+    if faces_back(&reals[0..at.areas], p, hit.polygon) {
+        return Some(hit);
     }
+    None
 }

@@ -6,7 +6,6 @@ ghost use Rattle.wall_samples.specs.Samples.{readings_of, sample_of};
 ghost use Rattle.wall_samples.specs.Stored.{reading, Readings};
 
 use crate::cast::centroid_of;
-use list_cells::wide;
 use math::Vec3;
 use scratch::regions::Regions;
 use wall_tree::wall_ray::strike::plane_at;
@@ -29,18 +28,15 @@ pub fn sample_at(file: &[u8], words: &[u32], reals: &[f64], at: Regions, k: usiz
     requires readings_2 { k < length (readings_of (part_of file.now)) }
     ensures { result ≡ sample_of (part_of file.now) (reading (readings_of (part_of file.now)) k) }
 {
-    let q = wide(words[at.readings + k]);
-    let hit = wide(words[at.hits + k]);
-    let start: usize = 0;
-    let areas = at.areas;
-    let plane = plane_at(&reals[start..areas], q);
-    let normal = plane.normal;
+    let q = words[at.readings + k] as usize;
+    let hit = words[at.hits + k] as usize;
+    let plane = plane_at(&reals[0..at.areas], q);
     Sample {
-        face: wide(words[at.faces + q]),
-        hit: wide(words[at.faces + hit]),
+        face: words[at.faces + q] as usize,
+        hit: words[at.faces + hit] as usize,
         thickness: reals[at.thickness + k],
         area: reals[at.weights + k],
         point: centroid_of(file, at.vertices, q),
-        normal: normal,
+        normal: plane.normal,
     }
 }

@@ -12,10 +12,8 @@ ghost use Rattle.wall_samples.specs.Stored.{Readings};
 ghost use Rattle.wall_samples.specs.Work.{put_polygons, put_measures, Added, Ready, Listed};
 
 use crate::cast::{Reading, reading_from};
-use list_cells::wide;
 use scratch::regions::Regions;
 use wall_starts::{face_order, put_falling, share, total_area};
-use wall_tree::wall_ray::strike::Hit;
 
 // The turn of a face: how many rays it gets, and how many readings the faces before it have.
 #[derive(Clone, Copy)]
@@ -59,16 +57,16 @@ fn put_pick(
 {
     let found = reading_from(file, words, reals, at, q);
     match found {
-        Hit::At { polygon, t } => {
+        Some(hit) => {
             let reading = Reading {
                 polygon: q,
-                hit: polygon,
-                thickness: t + 1e-6,
+                hit: hit.polygon,
+                thickness: hit.t + 1e-6,
             };
             put_reading(words, reals, at, k, reading);
             k + 1
         }
-        Hit::Nothing => k,
+        None => k,
     }
 }
 
@@ -79,11 +77,7 @@ fn step_of(n: usize, want: usize) -> usize
     ensures fact_2 { 1 ≤ result }
     ensures fact_3 { result ≤ n + 1 }
 {
-    let step = n / want;
-    if step < 1 {
-        return 1;
-    }
-    step
+    (n / want).max(1)
 }
 
 // The rays of a face whose n polygons stand in the order region. How many readings there are then.
@@ -108,8 +102,9 @@ fn put_picks(
     let mut count = before;
     let mut i: usize = 0;
     let mut place: usize = 0;
+    // A while: each turn goes `step` places on.
     while (i < want) & (place < n) {
-        let q = wide(words[order + place]);
+        let q = words[order + place] as usize;
         count = put_pick(file, words, reals, at, count, q);
         i += 1;
         place += step;
@@ -125,12 +120,10 @@ fn put_face(file: &[u8], words: &mut [u32], reals: &mut [f64], at: Regions, turn
     requires face_bound_2 { turn.before + length (face_polygons (part_of file.now) turn.face) ≤ at.polygons }
     ensures { Added (part_of file.now) at at.kinds turn.before (face_readings (part_of file.now) turn.face) words.old words.new reals.old reals.new result }
 {
-    let first = wide(words[at.firsts + turn.face]);
-    let falling = at.falling;
-    let end = at.thickness;
+    let first = words[at.firsts + turn.face] as usize;
     let n = face_order(
         words,
-        &reals[falling..end],
+        &reals[at.falling..at.thickness],
         at.chain,
         at.order,
         at.polygons,
@@ -153,17 +146,14 @@ fn put_faces(
     requires fact_3 { total ≡ total_area_of (part_of file.now) }
     ensures { Added (part_of file.now) at at.kinds 0 (readings_to (part_of file.now) n) words.old words.new reals.old reals.new result }
 {
-    let totals = at.totals;
     let mut k: usize = 0;
-    let mut f: usize = 0;
-    while f < n {
+    for f in 0..n {
         let turn = Turn {
             face: f,
-            want: share(reals[totals + f], total),
+            want: share(reals[at.totals + f], total),
             before: k,
         };
         k = put_face(file, words, reals, at, turn);
-        f += 1;
     }
     k
 }
@@ -184,9 +174,7 @@ pub fn put_samples(
     ensures outside_1 { Outside 0 at.readings at.kinds words.old words.new }
     ensures outside_2 { Outside nan at.falling at.rounds reals.old reals.new }
 {
-    let start = at.totals;
-    let end = at.volumes;
-    let total = total_area(&reals[start..end], n);
+    let total = total_area(&reals[at.totals..at.volumes], n);
     if total <= 0.0 {
         return 0;
     }

@@ -5,7 +5,6 @@ ghost use Rattle.std.specs.Prelude.{◌≡◌, ◌+◌, ◌≤◌, length};
 ghost use Rattle.wall_starts.specs.Starts as starts;
 ghost use Rattle.wall_starts.specs.Work.{Total, Negated, Room, Gathered, Ordered};
 
-use list_cells::wide;
 use list_sort::sort;
 use num_real::rounding::ceil_usize;
 
@@ -17,11 +16,7 @@ pub fn share(area: f64, total: f64) -> usize
     ensures fact_1 { result ≡ starts.share area total }
     ensures fact_2 { 1 ≤ result }
 {
-    let rays = ceil_usize((area / total) * RAY_BUDGET);
-    if rays < 1 {
-        return 1;
-    }
-    rays
+    ceil_usize((area / total) * RAY_BUDGET).max(1)
 }
 
 // The areas of the first n faces, added.
@@ -30,10 +25,8 @@ pub fn total_area(areas: &[f64], n: usize) -> f64
     ensures { Total areas.now n result }
 {
     let mut total = 0.0;
-    let mut f: usize = 0;
-    while f < n {
-        total = total + areas[f];
-        f += 1;
+    for f in 0..n {
+        total += areas[f];
     }
     total
 }
@@ -44,10 +37,8 @@ pub fn put_falling(reals: &mut [f64], areas: usize, falling: usize, n: usize)
     requires fact_2 { falling + n ≤ length reals.old }
     ensures { Negated reals.old reals.new areas falling n }
 {
-    let mut k: usize = 0;
-    while k < n {
+    for k in 0..n {
         reals[falling + k] = -reals[areas + k];
-        k += 1;
     }
 }
 
@@ -59,10 +50,11 @@ fn gather(words: &mut [u32], chain: usize, order: usize, p: usize, first: usize)
 {
     let mut n: usize = 0;
     let mut q = first;
+    // A while: the next polygon is the one that the chain names.
     while q < p {
         words[order + n] = q as u32;
         n += 1;
-        q = wide(words[chain + q]);
+        q = words[chain + q] as usize;
     }
     n
 }

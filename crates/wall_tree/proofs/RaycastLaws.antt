@@ -1,5 +1,5 @@
 -- What of the scratch a scan and a walk are lent.
-use mathlib.Core.Path.{◌≡◌, subst}
+use mathlib.Core.Path.{subst}
 use mathlib.Core.List.{List}
 use Prim.Native.Nat.{ℕ, ◌<◌}
 use lib.Ieee.{Float}

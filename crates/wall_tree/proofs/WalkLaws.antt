@@ -20,7 +20,7 @@ use Rattle.solid_boxes.specs.Tree.{at, Order, start_at, skip_at, Tree, PartTree}
 use Rattle.solid_boxes.proofs.OwnLaws.{own_tidy}
 use Rattle.wall_ray.specs.declared.strike.Ray.{Ray}
 use Rattle.wall_ray.specs.declared.strike.Hit.{Hit}
-use Rattle.wall_ray.specs.declared.strike.Hit.TheVariants.{At, Nothing}
+use Rattle.std.specs.Prelude.{Option, Some, None, is_some}
 use Rattle.wall_ray.specs.Slab.{endless}
 use Rattle.wall_ray.specs.Strike.{hit_time, own_span, struck}
 use Rattle.wall_ray.specs.Nearest.{best, Nearest, hit_of, Answer, is_nothing_of}
@@ -38,7 +38,7 @@ unfolding of_bits of_fields odd
 endless_inf = refl
 
 -- ---- one place more of the order
-pub kept_on : (s : List ℕ) (r : Ray) (words : List ℕ) (x p n : ℕ) (h k : Hit) → Order words n → (part_of s).polygons ≡ n → x < n → p ≡ at words x →
+pub kept_on : (s : List ℕ) (r : Ray) (words : List ℕ) (x p n : ℕ) (h k : Option Hit) → Order words n → (part_of s).polygons ≡ n → x < n → p ≡ at words x →
     k ≡ tried (struck (part_of s) r) (hit_time (part_of s) r) h p → Kept (part_of s) r words x h → Kept (part_of s) r words (x + 1) k
 unfolding Kept
 kept_on s r words x p n h k O e l ep ek w =
@@ -50,23 +50,23 @@ module _ (s : List ℕ) (C : Checked s) (r : Ray) where
   abbrev t : Part
   t = part_of s
 
-  kept_number : (q : ℕ) (u : Float) → Real (struck t r) (hit_time t r) t.polygons (At q u) → is_nan u ≡ false
-  kept_number q u w = subst (λ (k : Float). is_nan k ≡ false) (sym w.1.1) (struck_number t r q w.1.0)
+  kept_number : (h : Hit) → Real (struck t r) (hit_time t r) t.polygons (Some h) → is_nan h.t ≡ false
+  kept_number h w = subst (λ (k : Float). is_nan k ≡ false) (sym w.1.1) (struck_number t r h.polygon w.1.0)
 
   -- what is entered beyond the limit does not come first
-  pruned : (p : ℕ) (h : Hit) → Real (struck t r) (hit_time t r) t.polygons h → struck t r p ≡ true →
+  pruned : (p : ℕ) (h : Option Hit) → Real (struck t r) (hit_time t r) t.polygons h → struck t r p ≡ true →
       (le (own_span t r p).t0 (limit_of h) ≡ true → ⊥) →
       After h p (hit_time t r p)
   unfolding limit_of
-  pruned p Nothing w g f =
+  pruned p None w g f =
       f (subst (λ (k : Float). le (own_span t r p).t0 k ≡ true) (sym endless_inf)
       (most (own_span t r p).t0 (le_numbers _ _ (reached_after (own_span t r p) (hit_time t r p) (struck_reached t r p g))).0))
-  pruned p (At q u) w g f =
+  pruned p (Some h) w g f =
       let c = reached_after (own_span t r p) (hit_time t r p) (struck_reached t r p g) in
-      let b = not_le_lt (own_span t r p).t0 u (le_numbers _ _ c).0 (kept_number q u w) (refuted _ f) in
-      let d : lt u (hit_time t r p) ≡ true = lt_le_trans u (own_span t r p).t0 (hit_time t r p) b c in (
-        refuted (lt (hit_time t r p) u) (λ k. contrary (lt_trans u (hit_time t r p) u d k) (lt_irrefl u)),
-        λ e. absurd (contrary (eq_lt_trans (hit_time t r p) u (hit_time t r p) e d) (lt_irrefl (hit_time t r p))),
+      let b = not_le_lt (own_span t r p).t0 h.t (le_numbers _ _ c).0 (kept_number h w) (refuted _ f) in
+      let d : lt h.t (hit_time t r p) ≡ true = lt_le_trans h.t (own_span t r p).t0 (hit_time t r p) b c in (
+        refuted (lt (hit_time t r p) h.t) (λ k. contrary (lt_trans h.t (hit_time t r p) h.t d k) (lt_irrefl h.t)),
+        λ e. absurd (contrary (eq_lt_trans (hit_time t r p) h.t (hit_time t r p) e d) (lt_irrefl (hit_time t r p))),
       )
 
   module _ (boxes : List Float) (words : List ℕ) (n : ℕ) (en : n ≡ t.polygons) (W : PartTree t boxes words) where
@@ -91,7 +91,7 @@ module _ (s : List ℕ) (C : Checked s) (r : Ray) where
     at_end j a l e h = le_antisymm (omega (arith, e, tree.starts.inside j l)) h
 
     -- ---- a box that is not opened
-    past : (a : Aim) → Aimed r a → (j : ℕ) → j < m → (h : Hit) (limit : Float) (b : Bool) → limit ≡ limit_of h → b ≡ opens_at boxes j a limit →
+    past : (a : Aim) → Aimed r a → (j : ℕ) → j < m → (h : Option Hit) (limit : Float) (b : Bool) → limit ≡ limit_of h → b ≡ opens_at boxes j a limit →
         b ≡ false →
         Kept t r words (start_at words n j) h → Kept t r words (start_at words n (skip_at words n j)) h
     unfolding own_span Kept
@@ -131,7 +131,7 @@ module _ (s : List ℕ) (C : Checked s) (r : Ray) where
           let l = tree.within j at_node in
           (omega (arith, e, tree.ahead j at_node), (omega (arith, e, l), omega (arith, e, l, tree.room_nodes)))
 
-      pub past_to : (i : Aim) → Aimed r i → (h : Hit) (limit : Float) (b : Bool) → limit ≡ limit_of h → b ≡ opens_at boxes j i limit → b ≡ false →
+      pub past_to : (i : Aim) → Aimed r i → (h : Option Hit) (limit : Float) (b : Bool) → limit ≡ limit_of h → b ≡ opens_at boxes j i limit → b ≡ false →
           Kept t r words a h → (k e : ℕ) → k ≡ at words (2 * n + 1 + j) → e ≡ at words (n + k) → (e ≡ start_at words n k) × Kept t r words e h
       unfolding skip_at start_at
       past_to i A h limit b el eb f w k e ek ee =
@@ -165,32 +165,31 @@ module _ (s : List ℕ) (C : Checked s) (r : Ray) where
     places : (p : ℕ) → p < t.polygons → (x : ℕ) × ((x < t.polygons) × (at words x ≡ p))
     places p l = let z = tree.ordered.onto p (omega (arith, l, en)) in (z.place, (omega (arith, z.below, en), z.is))
 
-    pub done : (j a : ℕ) (h : Hit) → j ≤ m → a ≡ start_at words n j → n ≤ a → Kept t r words a h → Answer t r h
+    pub done : (j a : ℕ) (h : Option Hit) → j ≤ m → a ≡ start_at words n j → n ≤ a → Kept t r words a h → Answer t r h
     unfolding hit_of Kept
     done j a h l e z w =
         hit_answer t r h
         (best_scan (struck t r) (hit_time t r) (at words) t.polygons places numbers h (subst (λ (x : ℕ). Kept t r words x h) (at_end j a l e z ∙ en) w))
 
-  pub none_kept : (words : List ℕ) → Kept t r words 0 Nothing
+  pub none_kept : (words : List ℕ) → Kept t r words 0 None
   unfolding Kept
   none_kept words = best_none (struck t r) (hit_time t r) (at words) t.polygons
 
-  -- ---- a strike shows that the hit is not Nothing
-  pub stops : (words : List ℕ) (c : ℕ) (h : Hit) (b : Bool) → Kept t r words c h → b ≡ is_nothing_of h → b ≡ false → false ≡ is_nothing_of (hit_of t r)
+  -- ---- a strike shows that the ray does not strike nothing
+  pub stops : (words : List ℕ) (c : ℕ) (h : Option Hit) (b : Bool) → Kept t r words c h → b ≡ is_some h → b ≡ true → false ≡ is_nothing_of (hit_of t r)
   unfolding is_nothing_of hit_of Kept
-  stops words c Nothing b w e f = absurd (contrary e f)
-  stops words c (At p u) b w e f =
+  stops words c None b w e f = absurd (contrary f e)
+  stops words c (Some h) b w e f =
       go (best (struck t r) (hit_time t r) t.polygons) (best_is_nearest (struck t r) (hit_time t r) t.polygons)
     where
-      go : (k : Hit) → Nearest (struck t r) (hit_time t r) t.polygons k → false ≡ is_nothing_of k
-      go (At q v) n = refl
-      go Nothing n = absurd (contrary w.real.1.0 (unfold Nearest in n p w.real.0))
+      go : (k : Option Hit) → Nearest (struck t r) (hit_time t r) t.polygons k → false ≡ is_nothing_of k
+      go (Some k) n = refl
+      go None n = absurd (contrary w.real.1.0 (unfold Nearest in n h.polygon w.real.0))
 
-  pub goes_on : (words : List ℕ) (c : ℕ) (h : Hit) (b : Bool) → Kept t r words c h → b ≡ is_nothing_of h → b ≡ true → Kept t r words c Nothing
-  unfolding is_nothing_of
-  goes_on words c Nothing b w e f = w
-  goes_on words c (At p u) b w e f = absurd (contrary f e)
+  pub goes_on : (words : List ℕ) (c : ℕ) (h : Option Hit) (b : Bool) → Kept t r words c h → b ≡ is_some h → b ≡ false → Kept t r words c None
+  goes_on words c None b w e f = w
+  goes_on words c (Some h) b w e f = absurd (contrary e f)
 
-  pub clear : Nothing ≡ hit_of t r → true ≡ is_nothing_of (hit_of t r)
+  pub clear : None ≡ hit_of t r → true ≡ is_nothing_of (hit_of t r)
   unfolding is_nothing_of
   clear f = ap is_nothing_of f

@@ -1,5 +1,5 @@
 -- What the functions of this crate leave on the way. A reader may pass over it.
-use Rattle.std.specs.Prelude.{◌≡◌, Bool, true, false, cond, List, ℕ, ◌+◌, ◌-◌, ◌*◌, ◌≤◌, ◌<◌, get_or, Float}
+use Rattle.std.specs.Prelude.{◌≡◌, Bool, true, false, cond, List, ℕ, ◌+◌, ◌-◌, ◌*◌, ◌≤◌, ◌<◌, get_or, Float, Option, Some, None}
 use Rattle.std.specs.Float.{nan}
 use Rattle.std.specs.Float.Ieee.{lt, eq, le, is_nan}
 use Rattle.num_float.specs.Order.{lesser}
@@ -9,7 +9,6 @@ use Rattle.file_part.specs.Part.{Part}
 use Rattle.solid_boxes.specs.Tree.{at}
 use Rattle.wall_ray.specs.declared.strike.Ray.{Ray}
 use Rattle.wall_ray.specs.declared.strike.Hit.{Hit}
-use Rattle.wall_ray.specs.declared.strike.Hit.TheVariants.{At, Nothing}
 use Rattle.wall_ray.specs.Slab.{meets, endless}
 use Rattle.wall_ray.specs.Strike.{hit_time, inverse_of, struck}
 use Rattle.wall_tree.specs.declared.aim.Aim.{Aim}
@@ -54,29 +53,29 @@ opens_at l j a limit =
 
 -- ---- what is kept
 -- how far along the ray something can still come first
-unfoldable pub limit_of : Hit → Float
-limit_of (At q s) = s
-limit_of Nothing = endless
+unfoldable pub limit_of : Option Hit → Float
+limit_of (Some h) = h.t
+limit_of None = endless
 
 -- q at u does not come before what is kept
-abbrev pub After : Hit → ℕ → Float → Type 0
-After (At p t) q u = (lt u t ≡ false) × (eq u t ≡ true → p ≤ q)
-After Nothing q u = ⊥
+abbrev pub After : Option Hit → ℕ → Float → Type 0
+After (Some h) q u = (lt u h.t ≡ false) × (eq u h.t ≡ true → h.polygon ≤ q)
+After None q u = ⊥
 
 -- what is kept was struck
-abbrev pub Real : (ℕ → Bool) → (ℕ → Float) → ℕ → Hit → Type 0
-Real is time n (At p t) = (p < n) × ((is p ≡ true) × (t ≡ time p))
-Real is time n Nothing = 0 ≤ n
+abbrev pub Real : (ℕ → Bool) → (ℕ → Float) → ℕ → Option Hit → Type 0
+Real is time n (Some h) = (h.polygon < n) × ((is h.polygon ≡ true) × (h.t ≡ time h.polygon))
+Real is time n None = 0 ≤ n
 
 -- h is the nearest of those at the first c places
-pub record Best (is : ℕ → Bool) (time : ℕ → Float) (ord : ℕ → ℕ) (n c : ℕ) (h : Hit) : Type 0 where
+pub record Best (is : ℕ → Bool) (time : ℕ → Float) (ord : ℕ → ℕ) (n c : ℕ) (h : Option Hit) : Type 0 where
   pub real : Real is time n h
   pub all : (x : ℕ) → x < c → is (ord x) ≡ true → After h (ord x) (time (ord x))
 
 -- of what a ray strikes, with the polygons in the order of a tree
-unfoldable pub Kept : Part → Ray → List ℕ → ℕ → Hit → Type 0
+unfoldable pub Kept : Part → Ray → List ℕ → ℕ → Option Hit → Type 0
 Kept t r words c h = Best (struck t r) (hit_time t r) (at words) t.polygons c h
 
 -- what is kept of the places before a becomes what is kept of those before e
-pub record Tried (t : Part) (r : Ray) (words : List ℕ) (h : Hit) (a e : ℕ) (k : Hit) : Type 0 where
+pub record Tried (t : Part) (r : Ray) (words : List ℕ) (h : Option Hit) (a e : ℕ) (k : Option Hit) : Type 0 where
   pub step : Kept t r words a h → Kept t r words e k

@@ -58,11 +58,11 @@ pub fn aim_of(ray: Ray) -> Aim
     let y = near_at(inv.y, 1);
     let z = near_at(inv.z, 2);
     Aim {
-        origin: origin,
-        inv: inv,
-        x: x,
-        y: y,
-        z: z,
+        origin,
+        inv,
+        x,
+        y,
+        z,
     }
 }
 

@@ -14,12 +14,12 @@ use wall_ray::attempt::try_one;
 use wall_ray::strike::{Hit, Ray};
 
 // How far along the ray something can still come first.
-pub fn limit(best: Hit) -> f64
+pub fn limit(best: Option<Hit>) -> f64
     ensures { result ≡ limit_of best }
 {
     match best {
-        Hit::At { polygon: _, t: s } => s,
-        Hit::Nothing => 1.0 / 0.0,
+        Some(hit) => hit.t,
+        None => 1.0 / 0.0,
     }
 }
 
@@ -31,10 +31,10 @@ pub fn try_leaf(
     vertices: usize,
     ray: Ray,
     inv: Vec3,
-    best: Hit,
+    best: Option<Hit>,
     a: usize,
     e: usize,
-) -> Hit
+) -> Option<Hit>
     requires checked_1 { Checked file.now }
     requires checked_2 { KeptPlanes (part_of file.now) (polygon_count_of file.now) planes.now }
     requires order_1 { Order words.now (polygon_count_of file.now) }
@@ -45,11 +45,9 @@ pub fn try_leaf(
     ensures { Tried (part_of file.now) ray words.now best a e result }
 {
     let mut kept = best;
-    let mut x = a;
-    while x < e {
+    for x in a..e {
         let p = cell(words, x);
         kept = try_one(file, planes, vertices, ray, inv, kept, p);
-        x += 1;
     }
     kept
 }

@@ -11,24 +11,18 @@ use wall_ray::scan::{misses, scan};
 use wall_ray::strike::{Hit, Ray};
 
 // The hit of smallest t, of the lowest number on equal t.
-pub fn raycast(file: &[u8], words: &[u32], reals: &[f64], at: Regions, ray: Ray) -> Hit
+pub fn raycast(file: &[u8], words: &[u32], reals: &[f64], at: Regions, ray: Ray) -> Option<Hit>
     requires { Standing file.now at words.now reals.now }
     ensures { Answer (part_of file.now) ray result }
 {
-    let start: usize = 0;
-    let areas = at.areas;
     if at.polygons <= SCANNED {
-        return scan(file, &reals[start..areas], ray);
+        return scan(file, &reals[0..at.areas], ray);
     }
-    let boxes = at.boxes;
-    let falling = at.falling;
-    let tree = at.tree;
-    let sides = at.sides;
     nearest(
         file,
-        &reals[start..areas],
-        &reals[boxes..falling],
-        &words[tree..sides],
+        &reals[0..at.areas],
+        &reals[at.boxes..at.falling],
+        &words[at.tree..at.sides],
         ray,
     )
 }
@@ -38,20 +32,14 @@ fn is_free(file: &[u8], words: &[u32], reals: &[f64], at: Regions, ray: Ray) -> 
     requires { Standing file.now at words.now reals.now }
     ensures { result ≡ is_nothing_of (hit_of (part_of file.now) ray) }
 {
-    let start: usize = 0;
-    let areas = at.areas;
     if at.polygons <= SCANNED {
-        return misses(file, &reals[start..areas], ray);
+        return misses(file, &reals[0..at.areas], ray);
     }
-    let boxes = at.boxes;
-    let falling = at.falling;
-    let tree = at.tree;
-    let sides = at.sides;
     is_clear(
         file,
-        &reals[start..areas],
-        &reals[boxes..falling],
-        &words[tree..sides],
+        &reals[0..at.areas],
+        &reals[at.boxes..at.falling],
+        &words[at.tree..at.sides],
         ray,
     )
 }
@@ -70,7 +58,7 @@ pub fn open_towards(
 {
     let ray = Ray {
         origin: p.add(dir.mul(1e-4)),
-        dir: dir,
+        dir,
     };
     is_free(file, words, reals, at, ray)
 }

@@ -11,11 +11,10 @@ use crate::aim::{aim_of, is_open};
 use crate::attempt::{limit, try_leaf};
 use file_part::read::{polygon_count, vertex_count};
 use list_cells::cell;
-use wall_ray::attempt::is_nothing;
 use wall_ray::strike::{Hit, Ray};
 
 // What the ray strikes first.
-pub fn nearest(file: &[u8], planes: &[f64], boxes: &[f64], words: &[u32], ray: Ray) -> Hit
+pub fn nearest(file: &[u8], planes: &[f64], boxes: &[f64], words: &[u32], ray: Ray) -> Option<Hit>
     requires checked_1 { Checked file.now }
     requires checked_2 { KeptPlanes (part_of file.now) (polygon_count_of file.now) planes.now }
     requires part_tree { PartTree (part_of file.now) boxes.now words.now }
@@ -25,9 +24,10 @@ pub fn nearest(file: &[u8], planes: &[f64], boxes: &[f64], words: &[u32], ray: R
     let polygons = polygon_count(file);
     let skips = 2 * polygons + 1;
     let aim = aim_of(ray);
-    let mut best = Hit::Nothing;
+    let mut best = None;
     let mut j: usize = 0;
     let mut a: usize = 0;
+    // A while: the next start is that of the next node, or of the node that a skip leads to.
     while a < polygons {
         if !is_open(boxes, j, aim, limit(best)) {
             j = cell(words, skips + j);
@@ -53,9 +53,10 @@ pub fn is_clear(file: &[u8], planes: &[f64], boxes: &[f64], words: &[u32], ray: 
     let polygons = polygon_count(file);
     let skips = 2 * polygons + 1;
     let aim = aim_of(ray);
-    let endless = limit(Hit::Nothing);
+    let endless = limit(None);
     let mut j: usize = 0;
     let mut a: usize = 0;
+    // A while: the next start is that of the next node, or of the node that a skip leads to.
     while a < polygons {
         if !is_open(boxes, j, aim, endless) {
             j = cell(words, skips + j);
@@ -64,18 +65,8 @@ pub fn is_clear(file: &[u8], planes: &[f64], boxes: &[f64], words: &[u32], ray: 
         }
         j += 1;
         let e = cell(words, polygons + j);
-        let h = try_leaf(
-            file,
-            planes,
-            words,
-            vertices,
-            ray,
-            aim.inv,
-            Hit::Nothing,
-            a,
-            e,
-        );
-        if !is_nothing(h) {
+        let h = try_leaf(file, planes, words, vertices, ray, aim.inv, None, a, e);
+        if h.is_some() {
             return false;
         }
         a = e;

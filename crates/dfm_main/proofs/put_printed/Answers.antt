@@ -1,13 +1,17 @@
 -- `dfm_main::put_printed` meets its contract, return by return.
 use Prim.Native.Nat.{ℕ}
 use native.Mathlib.Omega.{arith}
+use borrow.Author.Rules.{rules}
 use lib.ListN.{length-replicate}
 use lib.Ieee.{binary64, of_bits}
 use Rattle.dfm_main.proofs.ProgramLaws.{printed_long, printed_answer}
 use Rattle.dfm_main.proofs.put_printed.Goals as goal
 
 pub returns-then-file-gt-LONGEST : goal.returns-then-file-gt-LONGEST
-returns-then-file-gt-LONGEST c = printed_long _ _ _ _ c.if-file-gt-LONGEST.true c.put_bytes.ensures
+returns-then-file-gt-LONGEST c =
+    let same = c.put_bytes.ensures.same_slice in
+    let all = printed_long _ _ _ _ c.if-file-gt-LONGEST.true c.put_bytes.ensures.put in
+    search rules
 
 pub returns : goal.returns
 returns c =

@@ -2,8 +2,8 @@
 use Rattle.dfm_print.proofs.PrintLaws.{put_accepted, put_refused}
 use Rattle.dfm_print.proofs.put_answer.Goals as goal
 
-pub returns-in-Accepted : goal.returns-in-Accepted
-returns-in-Accepted c = put_accepted _ _ _ c.in-Accepted.is
+pub returns-in-Ok : goal.returns-in-Ok
+returns-in-Ok c = put_accepted _ _ _ c.in-Ok.is
 
-pub returns-in-Refused : goal.returns-in-Refused
-returns-in-Refused c = put_refused _ _ _ _ _ c.in-Refused.is c.put_refusal.ensures
+pub returns-in-Err : goal.returns-in-Err
+returns-in-Err c = put_refused _ _ _ _ _ _ c.in-Err.is c.number.ensures c.put_refusal.ensures

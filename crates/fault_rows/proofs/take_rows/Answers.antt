@@ -3,7 +3,7 @@ use Rattle.std.proofs.Common.{◌≡◌, subst, ◌<◌, ℕ, List, length, get_
 use Rattle.std.proofs.lemmas.List.{get_or_default}
 use Rattle.fault_row.specs.declared.row.FaultRow.{FaultRow}
 use Rattle.fault_row.specs.Row.{row_room, RowPut}
-use native.Mathlib.Nat.{le_antisymm, lt_of_lt_of_le}
+use native.Mathlib.Nat.{lt_of_lt_of_le}
 use Rattle.fault_rows.specs.Rows.{Taken, row_in, zero_row_of}
 use Rattle.fault_rows.proofs.RowsLaws.{taken_none, taken_one}
 use Rattle.fault_rows.proofs.take_rows.Goals as goal
@@ -20,18 +20,17 @@ stands rows i r d cells cells' numbers numbers' low put =
     subst (λ (w : FaultRow). RowPut i w cells cells' numbers numbers' r) (get_or_default rows i d zero_row_of low) put
 
 pub loop-i-init : goal.loop-i-init
-loop-i-init c = record { within = omega arith; taken = taken_none _ _ _ }
+loop-i-init c = taken_none _ _ _
 
 pub put_row-requires : goal.put_row-requires
 put_row-requires c = few_rows _ _ _ (lt_of_lt_of_le c.loop-i-test.true c.requires.1)
 
 pub loop-i-preserved : goal.loop-i-preserved
-loop-i-preserved c = record {
-  within = omega (arith, c.loop-i-test.true);
-  taken = taken_one _ _ _ _ _ _ _ _ _ c.loop-i.invariant.taken (lt_of_lt_of_le c.loop-i-test.true c.requires.1) (stands _ _ _ _ _ _ _ _ (lt_of_lt_of_le c.loop-i-test.true c.requires.0) c.put_row.ensures);
-}
+loop-i-preserved c =
+    taken_one _ _ _ _ _ _ _ _ _ c.loop-i.invariant (lt_of_lt_of_le c.loop-i-test.true c.requires.1)
+    (stands _ _ _ _ _ _ _ _ (lt_of_lt_of_le c.loop-i-test.true c.requires.0) c.put_row.ensures)
 
 pub returns : goal.returns
 returns c =
-    let all : c.loop-i.i ≡ c.args.n = le_antisymm c.loop-i.invariant.within c.loop-i-test.false in
-    subst (λ (k : ℕ). Taken c.args.rows.now k c.args.cells.now c.loop-i.cells c.args.numbers.now c.loop-i.numbers) all c.loop-i.invariant.taken
+    let all : c.loop-i.i ≡ c.args.n = omega arith in
+    subst (λ (k : ℕ). Taken c.args.rows.now k c.args.cells.now c.loop-i.cells c.args.numbers.now c.loop-i.numbers) all c.loop-i.invariant

@@ -1,6 +1,5 @@
 -- `file_job::has` meets its contract.
 use Rattle.file_job.specs.Job.{has_flag}
-use borrow.Author.Rules.{rules}
 use Rattle.file_job.proofs.has.Goals as goal
 
 pub returns : goal.returns

@@ -1,6 +1,5 @@
 -- `file_job::read_job` meets its contract.
 use Rattle.file_job.specs.Job.{job_at}
-use borrow.Author.Rules.{rules}
 use Rattle.file_job.proofs.read_job.Goals as goal
 
 pub returns : goal.returns

@@ -1,6 +1,5 @@
 -- `file_job::read_material` meets its contract.
 use Rattle.file_job.specs.Job.{material_at}
-use borrow.Author.Rules.{rules}
 use Rattle.file_job.proofs.read_material.Goals as goal
 
 pub returns : goal.returns

@@ -1,5 +1,4 @@
 -- `print_walls::is_stacked` meets its contract.
-use borrow.Author.Rules.{rules}
 use mathlib.Core.Path.{ap, ◌∙◌}
 use lib.Ieee.{lt}
 use Rattle.num_real.specs.Select.{abs_of}

@@ -1,5 +1,4 @@
 -- `print_walls::put_floor` meets its contract: a row where the tests of dfm.rs are met.
-use borrow.Author.Rules.{rules}
 use Rattle.print_walls.proofs.FaultLaws.{floor_none, floor_layer, floor_few}
 use Rattle.print_walls.proofs.put_floor.Goals as goal
 

@@ -1,9 +1,7 @@
 -- `print_walls::put_print_walls` meets its contract: the faults of the walls that are passed are put.
-use borrow.Author.Rules.{rules}
 use Prim.Native.Nat.{◌+◌, ◌-◌, ◌≤◌}
-use native.Mathlib.Omega.{arith}
 use Rattle.file_part.specs.Part.{part_of}
-use Rattle.print_walls.proofs.WalkLaws.{WallsMet, met_none, wall_room, met_next, met_all}
+use Rattle.print_walls.proofs.WalkLaws.{WallsMet}
 use Rattle.print_walls.proofs.put_print_walls.Given as goal
 
 abbrev pub invariant-loop-i : goal.invariant-loop-i

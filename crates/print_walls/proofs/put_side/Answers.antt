@@ -1,5 +1,4 @@
 -- `print_walls::put_side` meets its contract: a row where the tests of dfm.rs are met.
-use borrow.Author.Rules.{rules}
 use Rattle.print_walls.proofs.FaultLaws.{side_none, side_nozzle, side_thin}
 use Rattle.print_walls.proofs.put_side.Goals as goal
 

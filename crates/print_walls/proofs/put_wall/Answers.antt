@@ -1,5 +1,4 @@
 -- `print_walls::put_wall` meets its contract.
-use borrow.Author.Rules.{rules}
 use Rattle.print_walls.proofs.FaultLaws.{by_floor, by_side}
 use Rattle.print_walls.proofs.put_wall.Goals as goal
 

@@ -1,13 +1,9 @@
 -- `print_walls::thinnest_reading` meets its contract.
 use borrow.Author.Rules.{rules}
-use mathlib.Core.Path.{◌≡◌}
-use Prim.Native.Nat.{◌-◌, ◌≤◌}
 use native.Mathlib.Omega.{arith}
 use lib.Ieee.{nan_bits}
-use Rattle.file_part.specs.Part.{part_of}
-use Rattle.wall_pairs.specs.Work.{reading_order}
 use Rattle.wall_pairs.proofs.StepLaws.{order_long}
-use Rattle.print_walls.proofs.ThinnestLaws.{thinnest_to, thinnest_start, thinnest_more, thinnest_end}
+use Rattle.print_walls.proofs.ThinnestLaws.{thinnest_start, thinnest_more, thinnest_end}
 use Rattle.print_walls.proofs.thinnest_reading.Goals as goal
 
 pub sample_in_order-first-requires : goal.sample_in_order-first-requires
@@ -22,7 +18,7 @@ unfolding nan_bits
 float_from_bits-least c = search rules
 
 pub loop-j-init : goal.loop-j-init
-loop-j-init c = (omega arith, (omega (arith, c.requires.fact_2), thinnest_start _ _ _ _ _ _ c.sample_in_order-first.ensures c.is_stacked.ensures))
+loop-j-init c = thinnest_start _ _ _ _ _ _ c.sample_in_order-first.ensures c.is_stacked.ensures
 
 pub sample_in_order-sample-requires : goal.sample_in_order-sample-requires
 sample_in_order-sample-requires c =
@@ -32,7 +28,7 @@ sample_in_order-sample-requires c =
     }
 
 pub loop-j-preserved : goal.loop-j-preserved
-loop-j-preserved c = (omega (arith, c.loop-j.invariant.0), (omega (arith, c.loop-j-test.true), thinnest_more _ _ _ _ _ _ _ _ c.loop-j.invariant.0 (omega (arith, c.loop-j-test.true, c.requires.fact_3, order_long _ _ _ _ c.requires.fact_1)) c.loop-j.invariant.1.1 c.sample_in_order-sample.ensures c.with_sample-least.ensures))
+loop-j-preserved c = thinnest_more _ _ _ _ _ _ _ _ c.loop-j.auto.j (omega (arith, c.loop-j-test.true, c.requires.fact_3, order_long _ _ _ _ c.requires.fact_1)) c.loop-j.invariant c.sample_in_order-sample.ensures c.with_sample-least.ensures
 
 pub returns : goal.returns
-returns c = thinnest_end _ _ _ _ _ _ _ c.requires.fact_2 (omega (arith, c.requires.fact_3, order_long _ _ _ _ c.requires.fact_1)) c.loop-j.invariant.1.0 c.loop-j-test.false c.loop-j.invariant.1.1
+returns c = thinnest_end _ _ _ _ _ _ _ c.requires.fact_2 (omega (arith, c.requires.fact_3, order_long _ _ _ _ c.requires.fact_1)) (omega arith) c.loop-j-test.false c.loop-j.invariant

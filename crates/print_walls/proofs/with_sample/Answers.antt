@@ -1,5 +1,4 @@
 -- `print_walls::with_sample` meets its contract.
-use borrow.Author.Rules.{rules}
 use Rattle.print_walls.proofs.ThinnestLaws.{sample_thinner, sample_other}
 use Rattle.print_walls.proofs.with_sample.Goals as goal
 

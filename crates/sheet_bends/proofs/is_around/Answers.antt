@@ -1,5 +1,4 @@
 -- `sheet_bends::is_around` meets its contract.
-use borrow.Author.Rules.{rules}
 use Rattle.sheet_bends.proofs.AroundLaws.{around_along, around_apart, around_is}
 use Rattle.sheet_bends.proofs.is_around.Goals as goal
 

@@ -1,5 +1,4 @@
 -- `sheet_bends::is_close` meets its contract.
-use borrow.Author.Rules.{rules}
 use Rattle.sheet_bends.proofs.AroundLaws.{close_is}
 use Rattle.sheet_bends.proofs.is_close.Goals as goal
 

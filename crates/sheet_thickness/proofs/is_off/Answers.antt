@@ -1,5 +1,4 @@
 -- `sheet_thickness::is_off` meets its contract.
-use borrow.Author.Rules.{rules}
 use mathlib.Core.Path.{ap}
 use lib.Ieee.{binary64, mul, lt}
 use Rattle.sheet_thickness.specs.Thickness.{three_hundredths, is_off_by}

@@ -1,5 +1,4 @@
 -- `sheet_thickness::mark_faces` meets its contract.
-use borrow.Author.Rules.{rules}
 use lib.ListN.{length-set}
 use Rattle.sheet_thickness.proofs.FaceLaws.{start_room, hit_room, from_room, to_room, from_low, to_low, faces_marked}
 use native.Mathlib.Omega.{arith}

@@ -1,5 +1,4 @@
 -- `sheet_thickness::measure` meets its contract: one step after the other.
-use borrow.Author.Rules.{rules}
 use Rattle.sheet_thickness.proofs.MeasureLaws.{rough_ordered, rough_read, kept_room, areas_room, middle_asks, none_measured, measured}
 use Rattle.sheet_thickness.proofs.measure.Goals as goal
 
@@ -30,7 +29,6 @@ pub returns-then-n-eq0 : goal.returns-then-n-eq0
 returns-then-n-eq0 c =
     let h = c.requires in
     none_measured _ _ _ _ _ h.edges_ordered_1 h.edges_ordered_2 h.counted_2 _ c.rough-limit.ensures.fact_2 _ c.rough-limit.ensures.fact_1 _ c.put_distances.ensures _ _ c.put_kept-n.ensures c.if-n-eq0.true
-    _ _ _
 
 pub middle_of-middle-requires : goal.middle_of-middle-requires
 middle_of-middle-requires c =
@@ -44,4 +42,4 @@ pub returns : goal.returns
 returns c =
     let h = c.requires in
     measured _ _ _ _ _ h.edges_ordered_1 h.edges_ordered_2 h.counted_2 _ c.rough-limit.ensures.fact_2 _ c.rough-limit.ensures.fact_1 _ c.put_distances.ensures _ _ c.put_kept-n.ensures
-    _ _ c.middle_of-middle.ensures.fact_1 c.middle_of-middle.ensures.fact_2 _ c.off_area-off.ensures
+    _ _ c.middle_of-middle.ensures.fact_1 c.middle_of-middle.ensures.fact_2 _ c.off_area-off.ensures c.if-n-eq0.false

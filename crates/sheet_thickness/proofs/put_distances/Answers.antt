@@ -1,23 +1,17 @@
 -- `sheet_thickness::put_distances` meets its contract.
-use borrow.Author.Rules.{rules}
-use Prim.Native.Nat.{◌-◌, ◌≤◌}
 use Rattle.list_laws.proofs.Outside.{outside_none}
-use Rattle.file_part.specs.Part.{part_of}
 use Rattle.sheet_thickness.proofs.KeptLaws.{still_stands, still_read, still_ordered}
-use Rattle.sheet_thickness.proofs.DistanceLaws.{DistancesTo, distances_none, distances_more, distances_all, face_below, edge_is, key_low, key_room}
+use Rattle.sheet_thickness.proofs.DistanceLaws.{distances_more, face_below, edge_is, key_low, key_room}
 use native.Mathlib.Omega.{arith}
 use Rattle.sheet_thickness.proofs.put_distances.Goals as goal
-
-pub loop-k-init : goal.loop-k-init
-loop-k-init c = (omega arith, distances_none _ _ _)
 
 pub sample_at-s-requires : goal.sample_at-s-requires
 sample_at-s-requires c =
     let h = c.requires in
     let inv = c.loop-k.invariant in
     record {
-      standing = still_stands _ _ _ _ _ _ (outside_none _ _ _ _) inv.1.kept h.edges_ordered_1.standing;
-      readings_1 = still_read _ _ _ _ _ _ (outside_none _ _ _ _) inv.1.kept h.edges_ordered_1.standing h.edges_ordered_2;
+      standing = still_stands _ _ _ _ _ _ (outside_none _ _ _ _) inv.kept h.edges_ordered_1.standing;
+      readings_1 = still_read _ _ _ _ _ _ (outside_none _ _ _ _) inv.kept h.edges_ordered_1.standing h.edges_ordered_2;
       readings_2 = omega (arith, c.loop-k-test.true, h.counted_2);
     }
 
@@ -25,7 +19,7 @@ pub edge_distance-distance-requires : goal.edge_distance-distance-requires
 edge_distance-distance-requires c =
     let h = c.requires in
     record {
-      fact_1 = still_ordered _ _ _ _ _ _ (outside_none _ _ _ _) c.loop-k.invariant.1.kept h.edges_ordered_1;
+      fact_1 = still_ordered _ _ _ _ _ _ (outside_none _ _ _ _) c.loop-k.invariant.kept h.edges_ordered_1;
       fact_2 = h.counted_1;
       fact_3 = face_below _ _ _ c.sample_at-s.ensures _ h.counted_1.faces (omega (arith, c.loop-k-test.true, h.counted_2));
     }
@@ -43,18 +37,10 @@ offset_bounds-reals-falling c =
 pub bounds-reals-falling : goal.bounds-reals-falling
 bounds-reals-falling c =
     let h = c.requires in
-    omega (arith, key_room _ _ _ _ h.edges_ordered_1.standing _ h.counted_2 _ c.loop-k-test.true, c.loop-k.invariant.1.kept.long)
+    omega (arith, key_room _ _ _ _ h.edges_ordered_1.standing _ h.counted_2 _ c.loop-k-test.true, c.loop-k.invariant.kept.long)
 
 pub loop-k-preserved : goal.loop-k-preserved
 loop-k-preserved c =
     let h = c.requires in
     let more = c.loop-k-test.true in
-    (omega (arith, more), distances_more _ _ _ _ _ _ (key_low _ _ _ _ h.edges_ordered_1.standing _ h.counted_2 _ more) (key_room _ _ _ _ h.edges_ordered_1.standing _ h.counted_2 _ more) (edge_is _ _ _ c.sample_at-s.ensures _ c.edge_distance-distance.ensures) c.loop-k.invariant.1)
-
-pub shape_of-reals : goal.shape_of-reals
-shape_of-reals c = c.loop-k.invariant.1.kept.long
-
-pub returns : goal.returns
-returns c =
-    let h = c.requires in
-    distances_all _ _ _ _ _ _ h.counted_2 c.loop-k-test.false c.loop-k.invariant.1
+    distances_more _ _ _ _ _ _ (key_low _ _ _ _ h.edges_ordered_1.standing _ h.counted_2 _ more) (key_room _ _ _ _ h.edges_ordered_1.standing _ h.counted_2 _ more) (edge_is _ _ _ c.sample_at-s.ensures _ c.edge_distance-distance.ensures) c.loop-k.invariant

@@ -3,11 +3,6 @@ use Rattle.sheet_thickness.proofs.MiddleLaws.{sum_asks, pair_asks, middle_sorted
 use native.Mathlib.Omega.{arith}
 use Rattle.sheet_thickness.proofs.sorted_middle.Goals as goal
 
-pub weighted_median-value-requires : goal.weighted_median-value-requires
-weighted_median-value-requires c =
-    let h = c.requires in
-    h.fact_1
-
 pub weight_sum-total-requires : goal.weight_sum-total-requires
 weight_sum-total-requires c =
     let h = c.requires in let all = sum_asks _ _ _ _ _ h.fact_1 _ c.weighted_median-value.ensures in record { fact_1 = all.0; fact_2 = all.1 }
@@ -16,17 +11,9 @@ pub of_pair-thinnest-requires : goal.of_pair-thinnest-requires
 of_pair-thinnest-requires c =
     let h = c.requires in let all = pair_asks _ _ _ _ _ h.fact_1 _ c.weighted_median-value.ensures _ (omega (arith, h.fact_2)) in record { fact_1 = all.0; fact_2 = all.1 }
 
-pub overflow_sub-n : goal.overflow_sub-n
-overflow_sub-n c =
-    let h = c.requires in
-    omega (arith, h.fact_2)
-
 pub of_pair-thickest-requires : goal.of_pair-thickest-requires
 of_pair-thickest-requires c =
     let h = c.requires in let all = pair_asks _ _ _ _ _ h.fact_1 _ c.weighted_median-value.ensures _ (omega (arith, h.fact_2)) in record { fact_1 = all.0; fact_2 = all.1 }
-
-pub shape_of-mem : goal.shape_of-mem
-shape_of-mem c = c.weighted_median-value.ensures.long
 
 pub returns : goal.returns
 returns c =

@@ -45,11 +45,6 @@ pub record Linked (p q : List ℕ) (i j : ℕ) : Type 0 where
   pub all : Carries (Up p) (Up q)
   pub only : Carries (Up q) (Tie p i j)
 
--- q is p, with i and j joined if u is before v
-pub record Taken (p q : List ℕ) (i j u v : ℕ) : Type 0 where
-  pub tied : u < v → Linked p q i j
-  pub left : v ≤ u → q ≡ p
-
 -- q has of each the label of its parent, no higher than itself, and joined with it
 pub record Flat (p q : List ℕ) : Type 0 where
   pub long : length q ≡ length p

@@ -1,5 +1,4 @@
 -- `solid_flat::face_normal` meets its contract: the normal of its first polygon.
-use borrow.Author.Rules.{rules}
 use Rattle.solid_flat.proofs.FlatLaws.{first_fits, first_place, plane_room, normal_is}
 use native.Mathlib.Omega.{arith}
 use Rattle.solid_flat.proofs.face_normal.Goals as goal

@@ -1,5 +1,4 @@
 -- `solid_flat::is_flat` meets its contract: its first polygon's surface.
-use borrow.Author.Rules.{rules}
 use Rattle.solid_flat.proofs.FlatLaws.{first_fits, first_place, entry_there, flat_is}
 use native.Mathlib.Omega.{arith}
 use Rattle.solid_flat.proofs.is_flat.Goals as goal

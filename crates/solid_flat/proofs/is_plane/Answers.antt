@@ -1,5 +1,4 @@
 -- `solid_flat::is_plane` meets its contract.
-use borrow.Author.Rules.{rules}
 use Rattle.solid_flat.proofs.FlatLaws.{plane_is, other_is}
 use borrow.Enum.Refused.{opened}
 use Rattle.solid_flat.proofs.is_plane.Goals as goal

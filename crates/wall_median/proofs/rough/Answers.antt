@@ -1,5 +1,4 @@
 -- `wall_median::rough` meets its contract.
-use borrow.Author.Rules.{rules}
 use Rattle.wall_median.proofs.RoughLaws.{few, all_pairs, rough_is, order_outside}
 use native.Mathlib.Omega.{arith}
 use Rattle.wall_median.proofs.rough.Goals as goal

@@ -3,28 +3,10 @@ use native.Mathlib.Omega.{arith}
 use Rattle.wall_pairs.proofs.StepLaws.{ready, keys_inside, order_inside, order_numbered, place_room, place_below, next_is}
 use Rattle.wall_pairs.proofs.next_wall.Goals as goal
 
-pub offset_bounds-reals-keys : goal.offset_bounds-reals-keys
-offset_bounds-reals-keys c = omega (arith, c.requires.fact_1.standing.placed.laid)
-
-pub slice_bounds-group_end-count : goal.slice_bounds-group_end-count
-slice_bounds-group_end-count c = omega (arith, c.requires.fact_1.standing.placed.laid)
-
-pub slice_bounds-group_end-start : goal.slice_bounds-group_end-start
-slice_bounds-group_end-start c = omega (arith, c.requires.fact_1.standing.placed.laid)
-
 pub slice_bounds-group_end-end : goal.slice_bounds-group_end-end
 slice_bounds-group_end-end c =
     let h = c.requires in
     keys_inside _ _ _ _ h.fact_1
-
-pub offset_bounds-words-order : goal.offset_bounds-words-order
-offset_bounds-words-order c = omega (arith, c.requires.fact_1.standing.placed.laid)
-
-pub slice_bounds-group_end-count-2 : goal.slice_bounds-group_end-count-2
-slice_bounds-group_end-count-2 c = omega (arith, c.requires.fact_1.standing.placed.laid)
-
-pub slice_bounds-group_end-start-2 : goal.slice_bounds-group_end-start-2
-slice_bounds-group_end-start-2 c = omega (arith, c.requires.fact_1.standing.placed.laid)
 
 pub slice_bounds-group_end-end-2 : goal.slice_bounds-group_end-end-2
 slice_bounds-group_end-end-2 c =
@@ -40,8 +22,8 @@ group_end-end-requires c =
       fact_3 = (order_numbered _ _ _ _ h.fact_1 _ h.fact_2.readings).1;
     }
 
-pub overflow_add-order : goal.overflow_add-order
-overflow_add-order c =
+pub overflow_add-at : goal.overflow_add-at
+overflow_add-at c =
     let h = c.requires in
     omega (arith, place_room _ _ _ _ h.fact_1 c.args.i (omega (arith, h.fact_3, h.fact_2.readings)))
 

@@ -3,8 +3,8 @@ use native.Mathlib.Omega.{arith}
 use Rattle.wall_pairs.proofs.StepLaws.{face_room, start_room, hit_room, start_polygon, hit_polygon, both_below, pair_there}
 use Rattle.wall_pairs.proofs.reading_pair.Goals as goal
 
-pub overflow_add-starts : goal.overflow_add-starts
-overflow_add-starts c =
+pub overflow_add-at : goal.overflow_add-at
+overflow_add-at c =
     let h = c.requires in
     omega (arith, start_room _ _ _ h.fact_1 _ h.fact_3)
 
@@ -13,8 +13,8 @@ cell-requires c =
     let h = c.requires in
     start_room _ _ _ h.fact_1 _ h.fact_3
 
-pub overflow_add-faces : goal.overflow_add-faces
-overflow_add-faces c =
+pub overflow_add-at-2 : goal.overflow_add-at-2
+overflow_add-at-2 c =
     let h = c.requires in
     omega (arith, face_room _ _ _ h.fact_1 _ (start_polygon _ _ _ h.fact_1 _ h.fact_3 _ c.cell.ensures))
 
@@ -23,8 +23,8 @@ cell-from-requires c =
     let h = c.requires in
     face_room _ _ _ h.fact_1 _ (start_polygon _ _ _ h.fact_1 _ h.fact_3 _ c.cell.ensures)
 
-pub overflow_add-hits : goal.overflow_add-hits
-overflow_add-hits c =
+pub overflow_add-at-3 : goal.overflow_add-at-3
+overflow_add-at-3 c =
     let h = c.requires in
     omega (arith, hit_room _ _ _ h.fact_1 _ h.fact_3)
 
@@ -33,8 +33,8 @@ cell-requires-2 c =
     let h = c.requires in
     hit_room _ _ _ h.fact_1 _ h.fact_3
 
-pub overflow_add-faces-2 : goal.overflow_add-faces-2
-overflow_add-faces-2 c =
+pub overflow_add-at-4 : goal.overflow_add-at-4
+overflow_add-at-4 c =
     let h = c.requires in
     omega (arith, face_room _ _ _ h.fact_1 _ (hit_polygon _ _ _ h.fact_1 _ h.fact_3 _ c.cell-2.ensures))
 

@@ -1,5 +1,4 @@
 -- `wall_starts::face_order` meets its contract.
-use borrow.Author.Rules.{rules}
 use native.Mathlib.Omega.{arith}
 use Rattle.wall_starts.proofs.SortLaws.{lent_length, lent_numbered, ordered_all}
 use Rattle.wall_starts.proofs.face_order.Goals as goal

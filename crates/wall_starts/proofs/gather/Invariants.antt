@@ -1,9 +1,6 @@
 -- `wall_starts::gather` meets its contract.
-use borrow.Author.Rules.{rules}
 use Prim.Native.Nat.{◌-◌}
-use lib.ListN.{length-set}
-use Rattle.wall_starts.proofs.KeptLaws.{GatheredTo, gathered_none, link_rises, gathered_more, gathered_all}
-use native.Mathlib.Omega.{arith}
+use Rattle.wall_starts.proofs.KeptLaws.{GatheredTo}
 use Rattle.wall_starts.proofs.gather.Given as goal
 
 abbrev pub invariant-loop-q : goal.invariant-loop-q

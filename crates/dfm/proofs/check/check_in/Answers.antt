@@ -5,13 +5,13 @@ use Rattle.fault_row.specs.Row.{row_at_of}
 use Rattle.fault_rows.specs.Rows.{painted, wiped}
 use Rattle.dfm_core.specs.Work.{wipe_from}
 use Rattle.dfm_core.proofs.AnswerLaws.{wipe_fits}
-use Rattle.dfm.proofs.OutcomeLaws.{ready_taken, outcome}
+use Rattle.dfm.proofs.OutcomeLaws.{found_taken, outcome}
 use Rattle.dfm.proofs.check.check_in.Goals as goal
 
 pub finish-answer-requires : goal.finish-answer-requires
 finish-answer-requires c =
     let fits : c.fault_count-faults.result ≤ length c.args.rows.now = omega (arith, c.fault_count-faults.ensures, c.find_faults-found.ensures.fits) in
-    λ z. ready_taken _ _ _ _ _ _ _ _ _ _ c.fault_count-faults.ensures fits c.put_rows.ensures c.take_rows.ensures (c.find_faults-found.ensures.ready z)
+    found_taken _ _ _ _ _ _ _ _ _ _ c.fault_count-faults.ensures fits c.put_rows.ensures c.take_rows.ensures c.find_faults-found.ensures.ready
 
 pub wipe_rows-requires : goal.wipe_rows-requires
 wipe_rows-requires c = rw c.wipe_from.ensures (wipe_fits c.finish-answer.result (length c.put_rows.new.rows))

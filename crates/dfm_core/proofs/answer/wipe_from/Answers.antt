@@ -1,14 +1,12 @@
 -- `dfm_core::answer::wipe_from` meets its contract.
-use borrow.Author.Rules.{rules}
-use mathlib.Core.Path.{sym, ◌∙◌}
-use Rattle.dfm_core.proofs.AnswerLaws.{early_wipes, late_wipes, accepted_wipes}
+use Rattle.std.proofs.Common.{◌∙◌, refl, sym}
+use Rattle.dfm_core.specs.Work.{wipe_from}
 use Rattle.dfm_core.proofs.answer.wipe_from.Goals as goal
 
-pub returns-then-is_early : goal.returns-then-is_early
-returns-then-is_early c = early_wipes _ _ _ (sym c.is_early.ensures ∙ c.if-is_early.true) c.in-Refused.is
+pub returns-then-keeps_buffers : goal.returns-then-keeps_buffers
+unfolding wipe_from
+returns-then-keeps_buffers c = rw (sym c.keeps_buffers.ensures ∙ c.if-keeps_buffers.true) refl
 
-pub returns-in-Accepted : goal.returns-in-Accepted
-returns-in-Accepted c = accepted_wipes _ _ _ c.in-Accepted.is
-
-pub returns-else-is_early : goal.returns-else-is_early
-returns-else-is_early c = late_wipes _ _ _ (sym c.is_early.ensures ∙ c.if-is_early.false) c.in-Refused.is
+pub returns : goal.returns
+unfolding wipe_from
+returns c = rw (sym c.keeps_buffers.ensures ∙ c.if-keeps_buffers.false) refl

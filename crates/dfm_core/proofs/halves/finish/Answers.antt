@@ -1,14 +1,13 @@
 -- `dfm_core::halves::finish` meets its contract.
-use borrow.Author.Rules.{rules}
-use mathlib.Core.Path.{sym, ◌∙◌}
+use Rattle.std.proofs.Common.{◌∙◌, sym}
 use Rattle.dfm_core.proofs.ReportLaws.{ended_early, ended_late}
 use Rattle.dfm_core.proofs.halves.finish.Goals as goal
 
-pub returns-then-is_early : goal.returns-then-is_early
-returns-then-is_early c = ended_early _ _ _ _ _ (sym c.is_early.ensures ∙ c.if-is_early.true)
+pub answer_part-answer-requires : goal.answer_part-answer-requires
+answer_part-answer-requires c = c.requires
 
-pub answer_part-out-requires : goal.answer_part-out-requires
-answer_part-out-requires c = c.requires
+pub returns-then-keeps_buffers : goal.returns-then-keeps_buffers
+returns-then-keeps_buffers c = ended_early _ _ _ _ _ _ _ c.answer_part-answer.ensures (sym c.keeps_buffers.ensures ∙ c.if-keeps_buffers.true)
 
 pub returns : goal.returns
-returns c = ended_late _ _ _ _ _ _ _ _ _ (sym c.is_early.ensures ∙ c.if-is_early.false) c.answer_part-out.ensures c.fill_words.ensures c.fill_reals.ensures
+returns c = ended_late _ _ _ _ _ _ _ c.answer_part-answer.ensures _ _ (sym c.keeps_buffers.ensures ∙ c.if-keeps_buffers.false) c.fill.ensures c.fill-2.ensures

@@ -1,7 +1,5 @@
 -- `fault_merge::merge::lead_of` meets its contract: none that is passed shares the line.
-use mathlib.Core.Path.{◌≡◌, sym, ◌∙◌}
-use mathlib.Core.Bool.{false}
-use Prim.Native.Nat.{ℕ, ◌≤◌, ◌<◌, ◌-◌}
+use mathlib.Core.Path.{sym, ◌∙◌}
 use Rattle.file_part.specs.Part.{part_of}
 use Rattle.fault_lines.specs.Line.{same_heading_of}
 use Rattle.fault_merge.specs.Rows.{heading_at}
@@ -10,7 +8,7 @@ use native.Mathlib.Omega.{arith}
 use Rattle.fault_merge.proofs.merge.lead_of.Goals as goal
 
 pub loop-j-init : goal.loop-j-init
-loop-j-init c = (omega arith, λ k h. absurd (omega (arith, h)))
+loop-j-init c = λ k h. absurd (omega (arith, h))
 
 pub is_same-requires : goal.is_same-requires
 is_same-requires c = let p = c.requires in
@@ -25,20 +23,14 @@ is_same-requires c = let p = c.requires in
 pub returns-then-is_same : goal.returns-then-is_same
 returns-then-is_same c =
     let g = c.args in
-    lead_found (part_of g.file.now) g.cells.now g.numbers.now g.i c.loop-j.j c.loop-j-test.true c.loop-j.invariant.1 (sym c.is_same.ensures ∙ c.if-is_same.true)
-
-pub overflow_add-j : goal.overflow_add-j
-overflow_add-j c = omega arith
-
-pub loop-j-smaller : goal.loop-j-smaller
-loop-j-smaller c = omega arith
+    lead_found (part_of g.file.now) g.cells.now g.numbers.now g.i c.loop-j.j c.loop-j-test.true c.loop-j.invariant (sym c.is_same.ensures ∙ c.if-is_same.true)
 
 pub loop-j-preserved : goal.loop-j-preserved
 loop-j-preserved c =
     let g = c.args in
-    (omega arith, none_more (λ k. same_heading_of (heading_at (part_of g.file.now) g.cells.now g.numbers.now k) (heading_at (part_of g.file.now) g.cells.now g.numbers.now g.i)) c.loop-j.j c.loop-j.invariant.1 (sym c.is_same.ensures ∙ c.if-is_same.false))
+    none_more (λ k. same_heading_of (heading_at (part_of g.file.now) g.cells.now g.numbers.now k) (heading_at (part_of g.file.now) g.cells.now g.numbers.now g.i)) c.loop-j.j c.loop-j.invariant (sym c.is_same.ensures ∙ c.if-is_same.false)
 
 pub returns : goal.returns
 returns c =
     let g = c.args in
-    lead_self (part_of g.file.now) g.cells.now g.numbers.now g.i c.loop-j.j c.loop-j-test.false c.loop-j.invariant.1
+    lead_self (part_of g.file.now) g.cells.now g.numbers.now g.i c.loop-j.j c.loop-j-test.false c.loop-j.invariant

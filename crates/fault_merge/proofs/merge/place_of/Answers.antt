@@ -11,28 +11,28 @@ use native.Mathlib.Omega.{arith}
 use Rattle.fault_merge.proofs.merge.place_of.Goals as goal
 
 pub overflow_mul-result : goal.overflow_mul-result
-overflow_mul-result c = omega (arith, c.if-known-i.true, c.requires.rows_1.few)
+overflow_mul-result c = omega (arith, (rw c.in-Some.is at c.requires.same_row).0, c.requires.rows_1.few)
 
-pub offset_bounds-work-known : goal.offset_bounds-work-known
-offset_bounds-work-known c = omega (arith, c.if-known-i.true, c.requires.rows_1.few)
+pub offset_bounds-work-j : goal.offset_bounds-work-j
+offset_bounds-work-j c = omega (arith, (rw c.in-Some.is at c.requires.same_row).0, c.requires.rows_1.few)
 
-pub bounds-work-known : goal.bounds-work-known
-bounds-work-known c = omega (arith, c.if-known-i.true, c.requires.rows_2)
+pub bounds-work-j : goal.bounds-work-j
+bounds-work-j c = omega (arith, (rw c.in-Some.is at c.requires.same_row).0, c.requires.rows_2)
 
-pub overflow_mul-known : goal.overflow_mul-known
-overflow_mul-known c = omega (arith, c.if-known-i.true, c.requires.rows_1.few)
+pub overflow_mul-j : goal.overflow_mul-j
+overflow_mul-j c = omega (arith, (rw c.in-Some.is at c.requires.same_row).0, c.requires.rows_1.few)
 
-pub overflow_add-known : goal.overflow_add-known
-overflow_add-known c = omega (arith, c.if-known-i.true, c.requires.rows_1.few)
+pub overflow_add-j : goal.overflow_add-j
+overflow_add-j c = omega (arith, (rw c.in-Some.is at c.requires.same_row).0, c.requires.rows_1.few)
 
 pub cell-requires : goal.cell-requires
-cell-requires c = omega (arith, c.if-known-i.true, c.requires.rows_2)
+cell-requires c = omega (arith, (rw c.in-Some.is at c.requires.same_row).0, c.requires.rows_2)
 
-pub returns-then-known-i : goal.returns-then-known-i
-returns-then-known-i c =
+pub returns-in-Some : goal.returns-in-Some
+returns-in-Some c =
     record {
-      fact_1 = known_hash _ _ _ _ _ _ c.requires.rows_3 c.if-known-i.true c.requires.rows_1.kept (c.requires.same_row c.if-known-i.true);
-      fact_2 = known_lead _ _ _ _ _ _ c.requires.rows_3 c.if-known-i.true c.requires.rows_1.kept (c.requires.same_row c.if-known-i.true) _ c.cell.ensures;
+      fact_1 = known_hash _ _ _ _ _ _ c.requires.rows_3 (rw c.in-Some.is at c.requires.same_row).0 c.requires.rows_1.kept (rw c.in-Some.is at c.requires.same_row).1;
+      fact_2 = known_lead _ _ _ _ _ _ c.requires.rows_3 (rw c.in-Some.is at c.requires.same_row).0 c.requires.rows_1.kept (rw c.in-Some.is at c.requires.same_row).1 _ c.cell.ensures;
     }
 
 pub flaw_at-requires : goal.flaw_at-requires

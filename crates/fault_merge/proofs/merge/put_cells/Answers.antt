@@ -1,5 +1,4 @@
 -- `fault_merge::merge::put_cells` meets its contract: four stores.
-use borrow.Author.Rules.{rules}
 use lib.ListN.{length-set}
 use Rattle.fault_merge.proofs.CellLaws.{opened_by}
 use native.Mathlib.Omega.{arith}

@@ -1,5 +1,4 @@
 -- `fault_merge::recall::mixed` meets its contract: a remainder.
-use borrow.Author.Rules.{rules}
 use native.Mathlib.Nat.{mod-lt}
 use lib.Dec.{lit<}
 use Rattle.fault_merge.proofs.recall.mixed.Goals as goal

@@ -1,5 +1,4 @@
 -- `fault_merge::recall::remember` meets its contract: one cell past the end, or none.
-use borrow.Author.Rules.{rules}
 use native.Mathlib.Omega.{arith}
 use Rattle.fault_merge.proofs.RecallLaws.{front_none, front_set}
 use Rattle.fault_merge.proofs.recall.remember.Goals as goal

@@ -1,5 +1,4 @@
 -- `fault_merge::recall::same_bits` meets its contract: a number is told by its bits.
-use borrow.Author.Rules.{rules}
 use mathlib.Core.Path.{sym, subst}
 use lib.Dec.{T}
 use Rattle.fault_merge.proofs.RecallLaws.{bits_same}

@@ -1,5 +1,4 @@
 -- `fault_merge::recall::slot_of` meets its contract: a place past the end.
-use borrow.Author.Rules.{rules}
 use native.Mathlib.Omega.{arith}
 use Prim.Native.Nat.{◌+◌}
 use Rattle.fault_merge.proofs.RecallLaws.{rest_low}

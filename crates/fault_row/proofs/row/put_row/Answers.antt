@@ -1,5 +1,4 @@
 -- `fault_row::row::put_row` meets its contract: nine stores where the row is lent, and nothing where it is not.
-use borrow.Author.Rules.{rules}
 use mathlib.Core.Path.{refl}
 use lib.ListN.{length-set}
 use Rattle.fault_row.proofs.RowLaws.{cells_fit, numbers_fit, row_stored, row_lost}

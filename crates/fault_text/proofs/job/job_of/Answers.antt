@@ -1,5 +1,4 @@
 -- `fault_text::job::job_of` meets its contract: the job stands before the trailer.
-use borrow.Author.Rules.{rules}
 use Rattle.fault_text.proofs.JobLaws.{job_room, job_is}
 use Rattle.fault_text.proofs.job.job_of.Goals as goal
 

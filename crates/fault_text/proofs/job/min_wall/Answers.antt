@@ -1,16 +1,14 @@
 -- `fault_text::job::min_wall` meets its contract: the three cases of dfm.rs's `filter` and `unwrap_or`.
-use borrow.Author.Rules.{rules}
-use Rattle.fault_text.proofs.JobLaws.{job_room, wall_of_material, wall_not_above, wall_no_material}
+use Rattle.fault_text.proofs.JobLaws.{wall_of_material, wall_not_above, wall_no_material}
 use Rattle.fault_text.proofs.job.min_wall.Goals as goal
+use Rattle.fault_text.proofs.job.min_wall.Goals.{else-job-via-then-job+else-job-2, else-job-via-else-job}
 
-pub read_job-job-requires : goal.read_job-job-requires
-read_job-job-requires c = job_room _ _ c.requires c.job_place.ensures
+pub returns-then-job-2 : goal.returns-then-job-2
+returns-then-job-2 c = wall_of_material _ _ c.job_of-job.ensures c.if-job.true c.if-job-2.true
 
-pub returns-then-wall : goal.returns-then-wall
-returns-then-wall c = wall_of_material _ _ _ c.job_place.ensures c.read_job-job.ensures c.if-job.true c.if-wall.true
-
-pub returns-else-wall : goal.returns-else-wall
-returns-else-wall c = wall_not_above _ _ _ c.job_place.ensures c.read_job-job.ensures c.if-job.true c.if-wall.false
-
-pub returns-else-job : goal.returns-else-job
-returns-else-job c = wall_no_material _ _ _ c.job_place.ensures c.read_job-job.ensures c.if-job.false
+pub returns : goal.returns
+returns c =
+    elim c.else-job.branch [
+      | else-job-via-then-job+else-job-2 w ↦ wall_not_above _ _ c.job_of-job.ensures w.if-job.true w.if-job-2.false
+      | else-job-via-else-job w ↦ wall_no_material _ _ c.job_of-job.ensures w.if-job.false
+    ]

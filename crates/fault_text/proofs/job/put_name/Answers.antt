@@ -1,8 +1,7 @@
 -- `fault_text::job::put_name` meets its contract: a part of the file, or the other words.
-use borrow.Author.Rules.{rules}
 use Rattle.fault_text.proofs.JobLaws.{job_room, name_lent, name_no_material, name_to}
-use Rattle.num_text.proofs.PutLaws.{put_same}
 use native.Mathlib.Omega.{arith}
+use Rattle.num_text.proofs.TextLaws.{adds_same}
 use Rattle.fault_text.proofs.job.put_name.Goals as goal
 
 pub read_job-job-requires : goal.read_job-job-requires
@@ -27,7 +26,7 @@ pub slice_bounds-put_bytes-end : goal.slice_bounds-put_bytes-end
 slice_bounds-put_bytes-end c = omega (arith, name_to _ _ _ c.job_place-place.ensures c.read_job-job.ensures c.requires, job_room _ _ c.requires c.job_place-place.ensures)
 
 pub returns-then-job : goal.returns-then-job
-returns-then-job c = put_same _ _ (name_lent _ _ _ c.job_place-place.ensures c.read_job-job.ensures _ c.if-job.true) c.put_bytes.ensures
+returns-then-job c = adds_same _ _ (name_lent _ _ _ c.job_place-place.ensures c.read_job-job.ensures _ c.if-job.true) c.put_bytes.ensures
 
 pub returns : goal.returns
-returns c = put_same _ _ (name_no_material _ _ _ c.job_place-place.ensures c.read_job-job.ensures _ c.if-job.false) c.put_bytes-2.ensures
+returns c = adds_same _ _ (name_no_material _ _ _ c.job_place-place.ensures c.read_job-job.ensures _ c.if-job.false) c.put_bytes-2.ensures

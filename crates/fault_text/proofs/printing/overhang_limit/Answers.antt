@@ -1,5 +1,4 @@
 -- `fault_text::printing::overhang_limit` meets its contract: one division.
-use borrow.Author.Rules.{rules}
 use mathlib.Core.Path.{refl}
 use Rattle.fault_text.specs.Printing.{limit_of}
 use Rattle.fault_text.proofs.printing.overhang_limit.Goals as goal

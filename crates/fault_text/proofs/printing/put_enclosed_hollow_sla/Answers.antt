@@ -1,9 +1,8 @@
 -- `fault_text::printing::put_enclosed_hollow_sla` meets its contract: one writer after the other.
-use borrow.Author.Rules.{rules}
-use Rattle.num_text.proofs.PutLaws.{put_then}
 use Rattle.fault_text.specs.Printing.{enclosed_hollow_sla_text}
+use Rattle.num_text.proofs.TextLaws.{adds_then}
 use Rattle.fault_text.proofs.printing.put_enclosed_hollow_sla.Goals as goal
 
 pub returns : goal.returns
 unfolding enclosed_hollow_sla_text
-returns c = put_then _ _ c.put_bytes-a.ensures (put_then _ _ c.put_decimal-b.ensures c.put_bytes.ensures)
+returns c = adds_then _ _ c.put_bytes.ensures (adds_then _ _ c.put_decimal.ensures c.put_bytes-2.ensures)

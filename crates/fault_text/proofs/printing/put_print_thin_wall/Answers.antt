@@ -1,9 +1,8 @@
 -- `fault_text::printing::put_print_thin_wall` meets its contract: one writer after the other.
-use borrow.Author.Rules.{rules}
-use Rattle.num_text.proofs.PutLaws.{put_then}
 use Rattle.fault_text.specs.Printing.{print_thin_wall_text}
+use Rattle.num_text.proofs.TextLaws.{adds_then, adds_same}
 use Rattle.fault_text.proofs.printing.put_print_thin_wall.Goals as goal
 
 pub returns : goal.returns
 unfolding print_thin_wall_text
-returns c = put_then _ _ c.put_bytes-a.ensures (put_then _ _ c.put_mm-b.ensures (put_then _ _ c.put_bytes-c.ensures (put_then _ _ c.put_label-d.ensures (put_then _ _ c.put_bytes-e.ensures (put_then _ _ c.put_mm-f.ensures c.put_bytes.ensures)))))
+returns c = adds_then _ _ c.put_bytes.ensures (adds_then _ _ c.put_mm.ensures (adds_then _ _ c.put_bytes-2.ensures (adds_then _ _ (adds_same _ _ c.label.ensures c.put_bytes-3.ensures) (adds_then _ _ c.put_bytes-4.ensures (adds_then _ _ c.put_mm-2.ensures c.put_bytes-5.ensures)))))

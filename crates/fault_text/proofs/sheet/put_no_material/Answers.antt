@@ -1,5 +1,4 @@
 -- `fault_text::sheet::put_no_material` meets its contract: one writer.
-use borrow.Author.Rules.{rules}
 use Rattle.fault_text.specs.Sheet.{no_material_text}
 use Rattle.fault_text.proofs.sheet.put_no_material.Goals as goal
 

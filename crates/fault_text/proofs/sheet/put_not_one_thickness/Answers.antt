@@ -1,9 +1,8 @@
 -- `fault_text::sheet::put_not_one_thickness` meets its contract: one writer after the other.
-use borrow.Author.Rules.{rules}
-use Rattle.num_text.proofs.PutLaws.{put_then}
 use Rattle.fault_text.specs.Sheet.{not_one_thickness_text}
+use Rattle.num_text.proofs.TextLaws.{adds_then}
 use Rattle.fault_text.proofs.sheet.put_not_one_thickness.Goals as goal
 
 pub returns : goal.returns
 unfolding not_one_thickness_text
-returns c = put_then _ _ c.put_bytes-a.ensures (put_then _ _ c.put_mm-b.ensures (put_then _ _ c.put_bytes-c.ensures (put_then _ _ c.put_mm-d.ensures (put_then _ _ c.put_bytes-e.ensures (put_then _ _ c.put_mm-f.ensures c.put_bytes.ensures)))))
+returns c = adds_then _ _ c.put_bytes.ensures (adds_then _ _ c.put_mm.ensures (adds_then _ _ c.put_bytes-2.ensures (adds_then _ _ c.put_mm-2.ensures (adds_then _ _ c.put_bytes-3.ensures (adds_then _ _ c.put_mm-3.ensures c.put_bytes-4.ensures)))))

@@ -1,5 +1,4 @@
 -- `fault_text::text::mm_places` meets its contract: the two cases of the test.
-use borrow.Author.Rules.{rules}
 use Rattle.fault_text.proofs.MmLaws.{places_below, places_from}
 use Rattle.fault_text.proofs.text.mm_places.Goals as goal
 

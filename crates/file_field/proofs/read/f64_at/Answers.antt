@@ -1,6 +1,5 @@
 -- `file_field::read::f64_at` meets its contract.
 use Rattle.file_field.specs.Field.{f64_at}
-use borrow.Author.Rules.{rules}
 use Rattle.file_field.proofs.read.f64_at.Goals as goal
 
 pub returns : goal.returns

@@ -1,6 +1,5 @@
 -- `file_field::read::vec_at` meets its contract.
 use Rattle.file_field.specs.Field.{vec_at_of}
-use borrow.Author.Rules.{rules}
 use Rattle.file_field.proofs.read.vec_at.Goals as goal
 
 pub returns : goal.returns

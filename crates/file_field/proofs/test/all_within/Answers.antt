@@ -1,6 +1,5 @@
 -- `file_field::test::all_within` meets its contract.
 use Rattle.file_field.specs.Test.{all_within}
-use borrow.Author.Rules.{rules}
 use Rattle.file_field.proofs.test.all_within.Goals as goal
 
 pub returns : goal.returns

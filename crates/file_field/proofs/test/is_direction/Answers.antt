@@ -1,6 +1,5 @@
 -- `file_field::test::is_direction` meets its contract.
 use Rattle.file_field.specs.Test.{is_direction}
-use borrow.Author.Rules.{rules}
 use Rattle.file_field.proofs.test.is_direction.Goals as goal
 
 pub returns : goal.returns

@@ -1,6 +1,5 @@
 -- `file_field::test::is_point` meets its contract.
 use Rattle.file_field.specs.Test.{is_point}
-use borrow.Author.Rules.{rules}
 use Rattle.file_field.proofs.test.is_point.Goals as goal
 
 pub returns : goal.returns

@@ -2,11 +2,9 @@
 use mathlib.Core.Path.{◌≡◌, sym, ◌∙◌, subst}
 use mathlib.Core.Bool.{true, false}
 use mathlib.Core.List.{List}
-use Prim.Native.Nat.{ℕ, ◌+◌, ◌*◌, ◌-◌, ◌≤◌, ◌<◌}
-use native.Mathlib.Omega.{arith}
+use Prim.Native.Nat.{ℕ, ◌+◌, ◌*◌, ◌≤◌, ◌<◌}
 use native.Mathlib.Nat.{le_antisymm}
 use borrow.Author.Tests.{ne_eqb}
-use borrow.Author.Rules.{rules}
 use Rattle.list_laws.proofs.Below.{all_none, all_more, all_fails}
 use Rattle.file_field.specs.Field.{u64_at}
 use Rattle.file_field.specs.Test.{zero_words}
@@ -28,16 +26,10 @@ whole : (s : List ℕ) (i k n : ℕ) → k ≤ n → n ≤ k → zero_words s i 
 whole s i k n a b h = sym (subst (λ (j : ℕ). zero_words s i j ≡ true) (le_antisymm a b) h)
 
 pub loop-k-init : goal.loop-k-init
-loop-k-init c = (omega arith, none c.args.file.now c.args.at)
+loop-k-init c = none c.args.file.now c.args.at
 
 pub returns-then-u64_at-ne0 : goal.returns-then-u64_at-ne0
 returns-then-u64_at-ne0 c = other _ _ _ _ _ c.u64_at.ensures c.if-u64_at-ne0.true c.loop-k-test.true
 
 pub loop-k-preserved : goal.loop-k-preserved
-loop-k-preserved c = (
-  omega (arith, c.loop-k-test.true),
-  more _ _ _ _ c.u64_at.ensures c.if-u64_at-ne0.false c.loop-k.invariant.1,
-)
-
-pub returns : goal.returns
-returns c = whole _ _ _ _ c.loop-k.invariant.0 c.loop-k-test.false c.loop-k.invariant.1
+loop-k-preserved c = more _ _ _ _ c.u64_at.ensures c.if-u64_at-ne0.false c.loop-k.invariant

@@ -7,16 +7,20 @@ use Rattle.file_job.specs.declared.Process.TheVariants.{CncMachining, SheetMetal
 use Rattle.file_job.specs.Work.{is_printing}
 use Rattle.file_job.proofs.Process.is_printing.Goals as goal
 
-cut : (p : Process) → (p ≡ CncMachining) ⊎ (p ≡ SheetMetal) → false ≡ is_printing p
-unfolding is_printing
-cut p h = ⊎_elim (λ e. rw e) (λ e. rw e) h
-
 printed : (p : Process) → (p ≡ Fdm) ⊎ ((p ≡ Sla) ⊎ (p ≡ Sls)) → true ≡ is_printing p
 unfolding is_printing
 printed p h = ⊎_elim (λ e. rw e) (λ g. ⊎_elim (λ e. rw e) (λ e. rw e) g) h
 
-pub returns-in-CncMachining : goal.returns-in-CncMachining
-returns-in-CncMachining c = cut c.args.self c.in-CncMachining.is
+cut : (p : Process) → (p ≡ Fdm → ⊥) → (p ≡ Sla → ⊥) → (p ≡ Sls → ⊥) → false ≡ is_printing p
+unfolding is_printing
+cut CncMachining a b d = refl
+cut SheetMetal a b d = refl
+cut Fdm a b d = absurd (a refl)
+cut Sla a b d = absurd (b refl)
+cut Sls a b d = absurd (d refl)
 
 pub returns-in-Fdm : goal.returns-in-Fdm
 returns-in-Fdm c = printed c.args.self c.in-Fdm.is
+
+pub returns-in_default : goal.returns-in_default
+returns-in_default c = cut c.args.self c.in_default.not-Fdm c.in_default.not-Sla c.in_default.not-Sls

@@ -1,5 +1,4 @@
 -- `file_job_ok::rules::flagged_real` meets its contract.
-use borrow.Author.Rules.{rules}
 use Rattle.file_job_ok.specs.Rules.{flagged_real}
 use Rattle.file_job_ok.proofs.rules.flagged_real.Goals as goal
 

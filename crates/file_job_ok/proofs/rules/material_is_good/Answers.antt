@@ -1,6 +1,5 @@
 -- `file_job_ok::rules::material_is_good` meets its contract.
 use Rattle.file_job_ok.specs.Rules.{material_good}
-use borrow.Author.Rules.{rules}
 use Rattle.file_job_ok.proofs.rules.material_is_good.Goals as goal
 
 pub returns : goal.returns

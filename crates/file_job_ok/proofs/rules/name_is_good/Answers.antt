@@ -1,14 +1,10 @@
 -- `file_job_ok::rules::name_is_good` meets its contract.
-use borrow.Author.Rules.{rules}
 use mathlib.Core.Path.{◌≡◌, sym, subst}
 use mathlib.Core.Bool.{Bool, true, false}
 use mathlib.Core.List.{List}
-use Prim.Native.Nat.{ℕ, ◌+◌, ◌-◌, ◌≤◌, ◌<◌}
-use native.Mathlib.Omega.{arith}
+use Prim.Native.Nat.{ℕ, ◌+◌, ◌≤◌, ◌<◌}
 use native.Mathlib.Nat.{le_antisymm}
 use lib.ListN.{get_or}
-use borrow.Author.Tests.{not-true, not-false}
-use Rattle.list_laws.specs.Below.{all_below}
 use Rattle.list_laws.proofs.Below.{all_none, all_more, all_fails}
 use Rattle.file_job.specs.file_field.specs.Field.{u32_at}
 use Rattle.file_job_ok.specs.Rules.{name_byte_good, name_good}
@@ -44,7 +40,7 @@ unfolding good_to name_good
 whole s at k a b h = sym (subst (λ (j : ℕ). good_to s at j ≡ true) (le_antisymm a b) h)
 
 pub loop-k-init : goal.loop-k-init
-loop-k-init c = (omega arith, none c.args.file.now c.args.at)
+loop-k-init c = none c.args.file.now c.args.at
 
 pub returns-then-not-name_byte_is_good : goal.returns-then-not-name_byte_is_good
 returns-then-not-name_byte_is_good c =
@@ -52,10 +48,7 @@ returns-then-not-name_byte_is_good c =
     c.loop-k-test.true
 
 pub loop-k-preserved : goal.loop-k-preserved
-loop-k-preserved c = (
-  omega (arith, c.loop-k-test.true),
-  more _ _ _ _ _ c.u32_at-length.ensures c.name_byte_is_good.ensures c.if-not-name_byte_is_good.false c.loop-k.invariant.1,
-)
+loop-k-preserved c = more _ _ _ _ _ c.u32_at-length.ensures c.name_byte_is_good.ensures c.if-not-name_byte_is_good.false c.loop-k.invariant
 
 pub returns : goal.returns
-returns c = whole _ _ _ c.loop-k.invariant.0 c.loop-k-test.false c.loop-k.invariant.1
+returns c = whole _ _ _ c.loop-k.auto.k-end c.loop-k-test.false c.loop-k.invariant

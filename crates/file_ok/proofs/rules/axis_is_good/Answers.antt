@@ -1,6 +1,5 @@
 -- `file_ok::rules::axis_is_good` meets its contract.
 use Rattle.file_ok.specs.Rules.{axis_good}
-use borrow.Author.Rules.{rules}
 use Rattle.file_ok.proofs.rules.axis_is_good.Goals as goal
 
 pub returns : goal.returns

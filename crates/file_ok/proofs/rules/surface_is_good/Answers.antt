@@ -1,5 +1,4 @@
 -- `file_ok::rules::surface_is_good` meets its contract.
-use borrow.Author.Rules.{rules}
 use Rattle.file_ok.proofs.GoodLaws.{good_flat, good_cylinder, good_revolved, good_none}
 use Rattle.file_ok.proofs.rules.surface_is_good.Goals as goal
 

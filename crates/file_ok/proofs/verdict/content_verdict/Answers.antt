@@ -1,5 +1,4 @@
 -- `file_ok::verdict::content_verdict` meets its contract.
-use borrow.Author.Rules.{rules}
 use mathlib.Core.Path.{sym, ap}
 use mathlib.Core.Bool.{true, false, not}
 use Rattle.file_ok.proofs.VerdictLaws.{content_job, content_vertex, content_polygon}

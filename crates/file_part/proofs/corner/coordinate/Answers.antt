@@ -1,5 +1,4 @@
 -- `file_part::corner::coordinate` meets its contract.
-use borrow.Author.Rules.{rules}
 use Rattle.file_job.specs.file_field.specs.Field.{f64_at}
 use Rattle.file_part.proofs.CornerLaws.{no_nan_bits}
 use Rattle.file_part.proofs.corner.coordinate.Goals as goal

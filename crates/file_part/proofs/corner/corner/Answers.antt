@@ -1,5 +1,4 @@
 -- `file_part::corner::corner` meets its contract.
-use borrow.Author.Rules.{rules}
 use native.Mathlib.Omega.{arith}
 use Rattle.file_job.specs.file_field.specs.Field.{vec_at_of}
 use Rattle.file_part.proofs.corner.corner.Goals as goal

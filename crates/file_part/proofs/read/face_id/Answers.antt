@@ -1,6 +1,5 @@
 -- `file_part::read::face_id` meets its contract.
 use Rattle.file_part.specs.Part.{face_at}
-use borrow.Author.Rules.{rules}
 use Rattle.file_part.proofs.read.face_id.Goals as goal
 
 pub returns : goal.returns

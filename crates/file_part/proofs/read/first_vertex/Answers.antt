@@ -1,6 +1,5 @@
 -- `file_part::read::first_vertex` meets its contract.
 use Rattle.file_part.specs.Part.{first_at}
-use borrow.Author.Rules.{rules}
 use Rattle.file_part.proofs.read.first_vertex.Goals as goal
 
 pub returns : goal.returns

@@ -1,5 +1,4 @@
 -- `file_part::read::surface` meets its contract.
-use borrow.Author.Rules.{rules}
 use Rattle.file_part.proofs.SurfaceLaws.{surface_plane, surface_cylinder, surface_revolved, surface_other}
 use Rattle.file_part.proofs.read.surface.Goals as goal
 

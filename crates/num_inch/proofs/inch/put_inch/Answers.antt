@@ -9,9 +9,9 @@ use lib.Ieee.{le, lt}
 use Rattle.num_text.specs.Put.{bytes}
 use Rattle.num_text.specs.Decimal.{zero, limit}
 use Rattle.num_text.proofs.DecimalLaws.{from_zero, to_limit, below_limit}
-use Rattle.num_text.proofs.PutLaws.{put_same, put_then, put_none}
 use Rattle.num_inch.specs.Inch.{mixed, inches}
 use Rattle.num_inch.proofs.InchLaws.{taken_inch, negative_inch, large_inch}
+use Rattle.num_text.proofs.TextLaws.{adds_none, adds_then, adds_same}
 use Rattle.num_inch.proofs.inch.put_inch.Goals as goal
 
 -- the text of the number that was found
@@ -29,14 +29,14 @@ returns-then-x-2 c =
     let not_negative : T (le zero c.args.x) = subst T (sym (from_zero c.args.x true c.if-x.true)) tt in
     let not-large : T (lt c.args.x limit) = subst T (sym (to_limit c.args.x true c.if-x-2.true)) tt in
     let x = c.args.x in
-    put_same _ _ (inches_is _ _ c.nearest_64th-n.ensures ∙ sym (taken_inch x not_negative not-large)) (put_then _ _ c.put_mixed-a.ensures c.put_bytes.ensures)
+    adds_same _ _ (inches_is _ _ c.nearest_64th-n.ensures ∙ sym (taken_inch x not_negative not-large)) (adds_then _ _ c.put_mixed.ensures c.put_bytes.ensures)
 
 pub returns-else-x-2 : goal.returns-else-x-2
 returns-else-x-2 c =
     let x = c.args.x in
-    put_same _ _ (sym (large_inch x (to_limit x false c.if-x-2.false))) (put_none _ _ (omega arith))
+    adds_same _ _ (sym (large_inch x (to_limit x false c.if-x-2.false))) (adds_none _)
 
 pub returns-else-x : goal.returns-else-x
 returns-else-x c =
     let x = c.args.x in
-    put_same _ _ (sym (negative_inch x (from_zero x false c.if-x.false))) (put_none _ _ (omega arith))
+    adds_same _ _ (sym (negative_inch x (from_zero x false c.if-x.false))) (adds_none _)

@@ -4,17 +4,12 @@ use lib.Dec.{T}
 use lib.Ieee.{binary64, of_bits, nan_bits, neg, fits}
 use lib.Ieee.Scale.{finite}
 use borrow.Author.Rules.{rules}
-use Rattle.num_real.proofs.BitsLaws.{finite→no_nan, between→finite, not_below→no_size, not_above→no_size, no_size→decomposed, subnormal, normal}
+use Rattle.num_real.proofs.BitsLaws.{between→finite, not_below→no_size, not_above→no_size, no_size→decomposed, subnormal, normal}
 use Rattle.num_real.proofs.bits.decompose.Goals as goal
 
 pub float_from_bits-infinity : goal.float_from_bits-infinity
 unfolding nan_bits
 float_from_bits-infinity c = search rules
-
-pub float_to_bits-bits : goal.float_to_bits-bits
-unfolding of_bits neg
-float_to_bits-bits c =
-    let is_finite : T (finite c.args.x) = between→finite c.args.x c.if-x-infinity.true c.if-infinity-x.true in finite→no_nan c.args.x is_finite
 
 pub returns-then-field-eq0 : goal.returns-then-field-eq0
 unfolding of_bits neg

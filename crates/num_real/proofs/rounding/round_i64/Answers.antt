@@ -4,7 +4,6 @@ use mathlib.Core.Bool.{true, false}
 use lib.Ieee.{of_bits}
 use mir.Syntax.{w64}
 use mir.Facts.{to_z_pos, to_z-of_z}
-use borrow.Author.Rules.{rules}
 use Rattle.num_real.proofs.RoundingLaws.{size_in_range, round_saturated, round_in_range, negated, negated_fits}
 use Rattle.num_real.proofs.rounding.round_i64.Goals as goal
 
@@ -19,12 +18,6 @@ returns-then-size c = round_saturated _ _ c.abs-size.ensures false c.if-x.false 
 pub round_size-whole-requires : goal.round_size-whole-requires
 unfolding of_bits
 round_size-whole-requires c = size_in_range _ _ c.abs-size.ensures c.if-size.false
-
-pub overflow_cast-whole : goal.overflow_cast-whole
-overflow_cast-whole c = record { sfits = c.round_size-whole.ensures.1 }
-
-pub overflow_sub-result : goal.overflow_sub-result
-overflow_sub-result c = negated_fits _ c.round_size-whole.ensures.1
 
 pub returns-then-x-2 : goal.returns-then-x-2
 unfolding of_bits

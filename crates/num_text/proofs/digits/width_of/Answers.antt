@@ -15,12 +15,6 @@ loop-v-init c = (search rules, omega arith, ap (λ (f : ℕ). 1 + count f (ltb c
     go : (n : ℕ) → n + 1 - 1 ≡ n
     go n = omega arith
 
-pub overflow_add-k : goal.overflow_add-k
-overflow_add-k c = omega (arith, c.ranges.n)
-
-pub loop-v-smaller : goal.loop-v-smaller
-loop-v-smaller c = omega arith
-
 pub loop-v-preserved : goal.loop-v-preserved
 loop-v-preserved c =
     let l = c.loop-v in

@@ -1,11 +1,8 @@
 -- `num_text::digits::width_of` meets its contract. The invariant: the digits counted and those that v still has make up the width.
-use mathlib.Core.Path.{◌≡◌, ap, ◌∙◌}
-use Prim.Native.Nat.{ℕ, suc, ◌≤◌, ◌+◌, ◌-◌, ◌/◌}
-use native.Mathlib.Omega.{arith}
+use mathlib.Core.Path.{◌≡◌}
+use Prim.Native.Nat.{◌≤◌, ◌+◌, ◌-◌}
 use lib.Dec.{ltb}
-use borrow.Author.Rules.{rules}
 use Rattle.num_text.specs.Number.{count, width}
-use Rattle.num_text.proofs.NumberLaws.{count_one, count_more}
 use Rattle.num_text.proofs.digits.width_of.Given as goal
 
 abbrev pub invariant-loop-v : goal.invariant-loop-v

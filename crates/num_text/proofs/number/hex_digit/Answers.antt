@@ -1,5 +1,4 @@
 -- `num_text::number::hex_digit` meets its contract: two cases.
-use borrow.Author.Rules.{rules}
 use borrow.Author.Tests.{lt-ltb, le-ltb}
 use Rattle.num_text.specs.Number.{hex_digit}
 use Rattle.num_text.proofs.number.hex_digit.Goals as goal

@@ -1,7 +1,7 @@
 -- `obj_number::cut::find_by_four` meets its contract: four bytes at a time.
 use mathlib.Core.Path.{◌≡◌, subst}
 use mathlib.Core.List.{List}
-use Prim.Native.Nat.{ℕ, ◌+◌, ◌-◌, ◌<◌}
+use Prim.Native.Nat.{ℕ, ◌+◌, ◌<◌}
 use lib.ListN.{length, get_or}
 use Rattle.obj_number.specs.Work.{NoneTo}
 use Rattle.obj_number.proofs.CutLaws.{none_start, none_more}
@@ -26,53 +26,17 @@ loop-i-init c = none_start _ _
 pub overflow_sub-s : goal.overflow_sub-s
 overflow_sub-s c = c.loop-i.invariant.inside
 
-pub bounds-s-i : goal.bounds-s-i
-bounds-s-i c = omega (arith, c.loop-i-test.true)
-
 pub returns-then-s-i : goal.returns-then-s-i
 returns-then-s-i c = c.loop-i.invariant
-
-pub overflow_add-i : goal.overflow_add-i
-overflow_add-i c = omega (arith, c.loop-i-test.true)
-
-pub bounds-s-i-in-loop-i : goal.bounds-s-i-in-loop-i
-bounds-s-i-in-loop-i c = omega (arith, c.loop-i-test.true)
-
-pub overflow_add-result : goal.overflow_add-result
-overflow_add-result c = omega (arith, c.loop-i-test.true)
 
 pub returns-then-s-i-2 : goal.returns-then-s-i-2
 returns-then-s-i-2 c = none_more c.args.b c.args.s.now c.loop-i.i c.loop-i.invariant (omega (arith, c.loop-i-test.true)) c.if-s-i.false
 
-pub overflow_add-i-in-loop-i : goal.overflow_add-i-in-loop-i
-overflow_add-i-in-loop-i c = omega (arith, c.loop-i-test.true)
-
-pub bounds-s-i-in-loop-i-2 : goal.bounds-s-i-in-loop-i-2
-bounds-s-i-in-loop-i-2 c = omega (arith, c.loop-i-test.true)
-
-pub overflow_add-result-then-s-i-3 : goal.overflow_add-result-then-s-i-3
-overflow_add-result-then-s-i-3 c = omega (arith, c.loop-i-test.true)
-
 pub returns-then-s-i-3 : goal.returns-then-s-i-3
 returns-then-s-i-3 c = second c.args.b c.args.s.now c.loop-i.i (none_more c.args.b c.args.s.now c.loop-i.i c.loop-i.invariant (omega (arith, c.loop-i-test.true)) c.if-s-i.false) (omega (arith, c.loop-i-test.true)) c.if-s-i-2.false
 
-pub overflow_add-i-in-loop-i-2 : goal.overflow_add-i-in-loop-i-2
-overflow_add-i-in-loop-i-2 c = omega (arith, c.loop-i-test.true)
-
-pub bounds-s-i-in-loop-i-3 : goal.bounds-s-i-in-loop-i-3
-bounds-s-i-in-loop-i-3 c = omega (arith, c.loop-i-test.true)
-
-pub overflow_add-result-then-s-i-4 : goal.overflow_add-result-then-s-i-4
-overflow_add-result-then-s-i-4 c = omega (arith, c.loop-i-test.true)
-
 pub returns-then-s-i-4 : goal.returns-then-s-i-4
 returns-then-s-i-4 c = third c.args.b c.args.s.now c.loop-i.i (second c.args.b c.args.s.now c.loop-i.i (none_more c.args.b c.args.s.now c.loop-i.i c.loop-i.invariant (omega (arith, c.loop-i-test.true)) c.if-s-i.false) (omega (arith, c.loop-i-test.true)) c.if-s-i-2.false) (omega (arith, c.loop-i-test.true)) c.if-s-i-3.false
-
-pub overflow_add-i-in-loop-i-3 : goal.overflow_add-i-in-loop-i-3
-overflow_add-i-in-loop-i-3 c = omega (arith, c.loop-i-test.true)
-
-pub loop-i-smaller : goal.loop-i-smaller
-loop-i-smaller c = omega (arith, c.loop-i-test.true)
 
 pub loop-i-preserved : goal.loop-i-preserved
 loop-i-preserved c = fourth c.args.b c.args.s.now c.loop-i.i (third c.args.b c.args.s.now c.loop-i.i (second c.args.b c.args.s.now c.loop-i.i (none_more c.args.b c.args.s.now c.loop-i.i c.loop-i.invariant (omega (arith, c.loop-i-test.true)) c.if-s-i.false) (omega (arith, c.loop-i-test.true)) c.if-s-i-2.false) (omega (arith, c.loop-i-test.true)) c.if-s-i-3.false) (omega (arith, c.loop-i-test.true)) c.if-s-i-4.false

@@ -1,5 +1,4 @@
 -- `obj_number::decimal::decimal` meets its contract: the sign, then the rest.
-use borrow.Author.Rules.{rules}
 use mathlib.Core.Path.{ap, ◌∙◌}
 use Rattle.obj_number.specs.Decimal.{unsigned_field}
 use Rattle.obj_number.proofs.CutLaws.{part_all}
@@ -15,11 +14,11 @@ slice_bounds-unsigned_decimal-count c = sign_inside c.args.field.now c.sign_leng
 pub slice_bounds-unsigned_decimal-start : goal.slice_bounds-unsigned_decimal-start
 slice_bounds-unsigned_decimal-start c = sign_inside c.args.field.now c.sign_length-from.result c.sign_length-from.ensures c.if-field-eq0.false
 
-pub returns-in_default : goal.returns-in_default
-returns-in_default c = sign_not c.args.field.now c.sign_length-from.result c.sign_length-from.ensures _ (c.unsigned_decimal.ensures ∙ ap unsigned_field (part_all _ c.args.field.now)) c.in_default.is
+pub returns-in_err-x : goal.returns-in_err-x
+returns-in_err-x c = c.from_residual.ensures ∙ sign_not c.args.field.now c.sign_length-from.result c.sign_length-from.ensures _ (c.unsigned_decimal.ensures ∙ ap unsigned_field (part_all _ c.args.field.now)) c.in_err-x.was
 
 pub returns-then-b-eq45 : goal.returns-then-b-eq45
-returns-then-b-eq45 c = sign_minus c.args.field.now c.sign_length-from.result c.sign_length-from.ensures _ _ c.if-b-eq45.true (c.unsigned_decimal.ensures ∙ ap unsigned_field (part_all _ c.args.field.now)) c.in-Is.is
+returns-then-b-eq45 c = sign_minus c.args.field.now c.sign_length-from.result c.sign_length-from.ensures _ _ c.if-b-eq45.true (c.unsigned_decimal.ensures ∙ ap unsigned_field (part_all _ c.args.field.now)) c.in_ok-x.was
 
 pub returns : goal.returns
-returns c = sign_plus c.args.field.now c.sign_length-from.result c.sign_length-from.ensures _ _ c.if-b-eq45.false (c.unsigned_decimal.ensures ∙ ap unsigned_field (part_all _ c.args.field.now)) c.in-Is.is
+returns c = sign_plus c.args.field.now c.sign_length-from.result c.sign_length-from.ensures _ _ c.if-b-eq45.false (c.unsigned_decimal.ensures ∙ ap unsigned_field (part_all _ c.args.field.now)) c.in_ok-x.was

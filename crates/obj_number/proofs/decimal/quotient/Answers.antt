@@ -1,5 +1,4 @@
 -- `obj_number::decimal::quotient` meets its contract.
-use borrow.Author.Rules.{rules}
 use mathlib.Core.Path.{ap, ◌∙◌}
 use Prim.Native.Nat.{ℕ}
 use native.Mathlib.Nat.{le_trans, le_of_lt, le_of_eq}

@@ -1,5 +1,4 @@
 -- `obj_number::decimal::unsigned_decimal` meets its contract: cut at the point, by the laws of `DecimalLaws`.
-use borrow.Author.Rules.{rules}
 use mathlib.Core.Path.{sym, ap, ◌∙◌}
 use native.Mathlib.Nat.{le_trans, le_of_eq}
 use lib.Seq.{length-take-le}
@@ -9,33 +8,30 @@ use Rattle.obj_number.proofs.DecimalLaws.{no_digits, many_digits, bad_front, bad
 use native.Mathlib.Omega.{arith}
 use Rattle.obj_number.proofs.decimal.unsigned_decimal.Goals as goal
 
-pub past_point-rest-requires : goal.past_point-rest-requires
-past_point-rest-requires c = le_trans (le_of_eq c.find-point.ensures) (before_length 46 c.args.s.now)
+pub overflow_add-point : goal.overflow_add-point
+overflow_add-point c = omega (arith, c.find-point.ensures, before_length 46 c.args.s.now)
 
 pub returns-then-count-eq0 : goal.returns-then-count-eq0
-returns-then-count-eq0 c = no_digits c.args.s.now c.find-point.result c.past_point-rest.result c.find-point.ensures c.past_point-rest.ensures c.if-count-eq0.true
+returns-then-count-eq0 c = no_digits c.args.s.now c.find-point.result c.min-rest.result c.find-point.ensures c.min-rest.ensures c.if-count-eq0.true
 
 pub returns-then-count-gt15 : goal.returns-then-count-gt15
-returns-then-count-gt15 c = many_digits c.args.s.now c.find-point.result c.past_point-rest.result c.find-point.ensures c.past_point-rest.ensures c.if-count-gt15.true
+returns-then-count-gt15 c = many_digits c.args.s.now c.find-point.result c.min-rest.result c.find-point.ensures c.min-rest.ensures c.if-count-gt15.true
 
 pub slice_bounds-digits-end : goal.slice_bounds-digits-end
 slice_bounds-digits-end c = sym (length-take-le _ _ (le_trans (le_of_eq c.find-point.ensures) (before_length 46 c.args.s.now)))
 
-pub returns-in_default : goal.returns-in_default
-returns-in_default c = bad_front c.args.s.now c.find-point.result c.past_point-rest.result c.find-point.ensures c.past_point-rest.ensures _ c.digits.ensures c.in_default.is
+pub returns-in_err-n : goal.returns-in_err-n
+returns-in_err-n c = c.from_residual.ensures ∙ bad_front c.args.s.now c.find-point.result c.min-rest.result c.find-point.ensures c.min-rest.ensures _ c.digits.ensures c.in_err-n.was
 
 pub digits-requires-2 : goal.digits-requires-2
-digits-requires-2 c = front_le c.args.s.now c.find-point.result c.past_point-rest.result c.find-point.ensures c.past_point-rest.ensures _ _ c.digits.ensures c.in-Is.is
+digits-requires-2 c = front_le c.args.s.now c.find-point.result c.min-rest.result c.find-point.ensures c.min-rest.ensures _ _ c.digits.ensures c.in_ok-n.was
 
-pub returns-in_default-digits : goal.returns-in_default-digits
-returns-in_default-digits c = bad_tail c.args.s.now c.find-point.result c.past_point-rest.result c.find-point.ensures c.past_point-rest.ensures _ _ (c.digits-2.ensures ∙ ap (digits_field _) (part_all _ c.args.s.now)) c.in_default-digits.is
+pub returns-in_err-m : goal.returns-in_err-m
+returns-in_err-m c = c.from_residual-in_err-m.ensures ∙ bad_tail c.args.s.now c.find-point.result c.min-rest.result c.find-point.ensures c.min-rest.ensures _ _ (c.digits-2.ensures ∙ ap (digits_field _) (part_all _ c.args.s.now)) c.in_err-m.was
 
-pub quotient-requires : goal.quotient-requires
-quotient-requires c =
-    record {
-      fact_1 = small c.args.s.now c.find-point.result c.past_point-rest.result c.find-point.ensures c.past_point-rest.ensures c.in-Is.n c.in-Is-digits.m _ _ c.digits.ensures c.in-Is.is (c.digits-2.ensures ∙ ap (digits_field _) (part_all _ c.args.s.now)) c.in-Is-digits.is c.if-count-eq0.false c.if-count-gt15.false;
-      fact_2 = omega (arith, c.if-count-gt15.false);
-    }
+pub quotient-requires-clause-fact_1 : goal.quotient-requires-clause-fact_1
+quotient-requires-clause-fact_1 c =
+    small c.args.s.now c.find-point.result c.min-rest.result c.find-point.ensures c.min-rest.ensures c.in_ok-n.n c.in_ok-m.m _ _ c.digits.ensures c.in_ok-n.was (c.digits-2.ensures ∙ ap (digits_field _) (part_all _ c.args.s.now)) c.in_ok-m.was c.if-count-eq0.false c.if-count-gt15.false
 
 pub returns : goal.returns
-returns c = read_right c.args.s.now c.find-point.result c.past_point-rest.result c.find-point.ensures c.past_point-rest.ensures c.in-Is.n c.in-Is-digits.m _ _ c.digits.ensures c.in-Is.is (c.digits-2.ensures ∙ ap (digits_field _) (part_all _ c.args.s.now)) c.in-Is-digits.is c.if-count-eq0.false c.if-count-gt15.false _ c.quotient.ensures
+returns c = read_right c.args.s.now c.find-point.result c.min-rest.result c.find-point.ensures c.min-rest.ensures c.in_ok-n.n c.in_ok-m.m _ _ c.digits.ensures c.in_ok-n.was (c.digits-2.ensures ∙ ap (digits_field _) (part_all _ c.args.s.now)) c.in_ok-m.was c.if-count-eq0.false c.if-count-gt15.false _ c.quotient.ensures

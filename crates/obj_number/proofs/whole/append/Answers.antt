@@ -1,5 +1,4 @@
 -- `obj_number::whole::append` meets its contract.
-use borrow.Author.Rules.{rules}
 use Rattle.obj_number.specs.Whole.{capped}
 use Rattle.obj_number.proofs.WholeLaws.{digit_from, digit_to}
 use native.Mathlib.Omega.{arith}

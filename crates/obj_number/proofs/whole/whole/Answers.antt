@@ -1,5 +1,4 @@
 -- `obj_number::whole::whole` meets its contract.
-use borrow.Author.Rules.{rules}
 use mathlib.Core.Path.{sym, ◌∙◌}
 use Rattle.obj_number.proofs.WholeLaws.{whole_empty, whole_digits}
 use Rattle.obj_number.proofs.whole.whole.Goals as goal

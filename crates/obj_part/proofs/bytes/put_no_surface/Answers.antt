@@ -1,5 +1,4 @@
 -- `obj_part::bytes::put_no_surface` meets its contract.
-use borrow.Author.Rules.{rules}
 use Rattle.obj_part.proofs.bytes.put_no_surface.Goals as goal
 
 pub returns : goal.returns

@@ -1,12 +1,7 @@
 -- `obj_windows::fill::fill` meets its contract: the corners that name a vertex passed have its coordinates.
-use mathlib.Core.Path.{sym, ◌∙◌}
-use mathlib.Core.List.{List}
-use Prim.Native.Nat.{ℕ, ◌+◌, ◌-◌, ◌≤◌, ◌<◌}
-use native.Mathlib.Decide.{dec_le}
+use Prim.Native.Nat.{◌+◌, ◌-◌}
 use lib.ListN.{length}
-use Rattle.obj_text.proofs.LineLaws.{forms_start, forms_end}
-use Rattle.obj_windows.proofs.FillLaws.{Filling, filling_all, filling_step, filled}
-use native.Mathlib.Omega.{arith}
+use Rattle.obj_windows.proofs.FillLaws.{Filling}
 use Rattle.obj_windows.proofs.fill.fill.Given as goal
 
 abbrev pub invariant-loop-at : goal.invariant-loop-at

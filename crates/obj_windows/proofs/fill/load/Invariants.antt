@@ -1,14 +1,7 @@
 -- `obj_windows::fill::load` meets its contract: the window holds the vertices of the lines passed.
-use borrow.Author.Rules.{rules}
-use mathlib.Core.Path.{sym, ap, ◌∙◌}
-use mathlib.Core.List.{List}
-use Prim.Native.Nat.{ℕ, ◌+◌, ◌-◌}
+use Prim.Native.Nat.{◌+◌, ◌-◌}
 use lib.ListN.{length}
-use Rattle.obj_number.specs.Cut.{before}
-use Rattle.obj_number.proofs.CutLaws.{part_all}
-use Rattle.obj_text.proofs.LineLaws.{forms_step, end_inside}
-use Rattle.obj_windows.proofs.FillLaws.{shows, Loading, loading_none, loading_step, loaded}
-use native.Mathlib.Omega.{arith}
+use Rattle.obj_windows.proofs.FillLaws.{Loading}
 use Rattle.obj_windows.proofs.fill.load.Given as goal
 
 abbrev pub invariant-loop-at : goal.invariant-loop-at

@@ -1,5 +1,4 @@
 -- `probe::rays::ray_at` meets its contract.
-use borrow.Author.Rules.{rules}
 use mathlib.Core.Path.{refl}
 use Rattle.probe.specs.Rays.{ray_at}
 use Rattle.probe.proofs.rays.ray_at.Goals as goal

@@ -1,5 +1,4 @@
 -- `probe::samples::put_sample` meets its contract.
-use borrow.Author.Rules.{rules}
 use mathlib.Core.Path.{refl}
 use lib.ListN.{length-set}
 use Rattle.probe.proofs.SampleLaws.{faces_row, numbers_row}

@@ -1,5 +1,4 @@
 -- `report::report::write_report` meets its contract: with cells for a small part, or for any.
-use borrow.Author.Rules.{rules}
 use native.Mathlib.Omega.{arith}
 use Rattle.report.proofs.report.write_report.Goals as goal
 

@@ -1,5 +1,4 @@
 -- `report::report::write_with` meets its contract: measured, then written.
-use borrow.Author.Rules.{rules}
 use mathlib.Core.Path.{◌∙◌}
 use Rattle.report_faces.specs.fault_merge.proofs.RecallLaws.{merged_front}
 use Rattle.report_faces.proofs.LinkLaws.{kept_low}

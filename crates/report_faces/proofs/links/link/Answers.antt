@@ -1,8 +1,6 @@
 -- `report_faces::links::link` meets its contract: nothing to do for a body's lowest polygon, else it comes first of those that are linked.
-use borrow.Author.Rules.{rules}
 use native.Mathlib.Omega.{arith}
 use lib.ListN.{length-set}
-use Rattle.report_faces.specs.Work.{Low}
 use Rattle.fault_merge.proofs.RecallLaws.{front_none, front_set}
 use Rattle.report_faces.proofs.LinkLaws.{link_own, link_other, label_low}
 use Rattle.report_faces.proofs.links.link.Goals as goal

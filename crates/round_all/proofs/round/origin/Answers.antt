@@ -1,5 +1,4 @@
 -- `round_all::round::origin` meets its contract.
-use borrow.Author.Rules.{rules}
 use Rattle.math.specs.Vector.{zero_vec}
 use Rattle.round_all.proofs.SurfaceLaws.{origin_cylinder, origin_other}
 use borrow.Enum.Refused.{opened}

@@ -1,5 +1,4 @@
 -- `round_all::round::put_extent` meets its contract.
-use borrow.Author.Rules.{rules}
 use mathlib.Core.Path.{ap, ◌∙◌}
 use Prim.Native.Nat.{ℕ}
 use Rattle.file_part.specs.Part.{part_of}

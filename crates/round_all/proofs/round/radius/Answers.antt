@@ -1,5 +1,4 @@
 -- `round_all::round::radius` meets its contract.
-use borrow.Author.Rules.{rules}
 use Rattle.round_all.proofs.SurfaceLaws.{radius_cylinder, radius_other}
 use borrow.Enum.Refused.{opened}
 use Rattle.round_all.proofs.round.radius.Goals as goal

@@ -1,13 +1,7 @@
 -- `round_frame::bore::face_directions` meets its contract.
-use Prim.Native.Nat.{◌-◌}
-use Rattle.file_part.specs.Part.{part_of}
 use Rattle.file_ok.proofs.ReadableLaws.{readable_counts}
-use Rattle.solid_faces.specs.Faces.{face_number}
 use Rattle.solid_faces.proofs.BodyLaws.{readable_long}
-use Rattle.solid_faces.proofs.ChainLaws.{OnFace, on_first, on_next, on_rises}
-use Rattle.file_ok.specs.Rules.{run_start}
-use Rattle.round_frame.specs.Polygons.{directions_to}
-use Rattle.round_frame.specs.Work.{DirectionsPut}
+use Rattle.solid_faces.proofs.ChainLaws.{on_first, on_next, on_rises}
 use Rattle.round_frame.proofs.RunLaws.{polygon_low}
 use Rattle.round_frame.proofs.BoreLaws.{polygons_none, polygon_next, polygons_all}
 use native.Mathlib.Omega.{arith}
@@ -41,9 +35,6 @@ pub bounds-chain-q : goal.bounds-chain-q
 bounds-chain-q c =
     omega (arith, polygon_low _ _ _ c.polygon_count-p.ensures c.loop-q-test.true, c.requires.readable_2.long)
 
-pub overflow_cast-q : goal.overflow_cast-q
-overflow_cast-q c = omega (arith, c.shared_slice_known-in-loop-q-1.given c.loop-q.q)
-
 pub loop-q-smaller : goal.loop-q-smaller
 loop-q-smaller c =
     omega (arith, on_rises _ _ _ _ c.requires.readable_2 c.loop-q.invariant.0 (polygon_low _ _ _ c.polygon_count-p.ensures c.loop-q-test.true), c.loop-q-test.true)
@@ -51,9 +42,6 @@ loop-q-smaller c =
 pub loop-q-preserved : goal.loop-q-preserved
 loop-q-preserved c =
     (on_next _ _ _ _ c.requires.readable_2 c.loop-q.invariant.0 (polygon_low _ _ _ c.polygon_count-p.ensures c.loop-q-test.true), polygon_next _ _ _ _ _ _ _ _ _ _ _ c.requires.readable_2 c.loop-q.invariant.0 (polygon_low _ _ _ c.polygon_count-p.ensures c.loop-q-test.true) c.loop-q.invariant.1 c.polygon_directions-n.ensures)
-
-pub shape_of-cells : goal.shape_of-cells
-shape_of-cells c = c.loop-q.invariant.1.long
 
 pub returns : goal.returns
 returns c = polygons_all _ _ _ _ _ _ _ _ _ c.requires.readable_1 c.vertex_count-v.ensures c.polygon_count-p.ensures c.loop-q.invariant.0.low c.loop-q-test.false c.loop-q.invariant.1

@@ -1,16 +1,11 @@
 -- `round_frame::bore::face_directions` meets its contract.
 use Prim.Native.Nat.{◌-◌}
 use Rattle.file_part.specs.Part.{part_of}
-use Rattle.file_ok.proofs.ReadableLaws.{readable_counts}
 use Rattle.solid_faces.specs.Faces.{face_number}
-use Rattle.solid_faces.proofs.BodyLaws.{readable_long}
-use Rattle.solid_faces.proofs.ChainLaws.{OnFace, on_first, on_next, on_rises}
+use Rattle.solid_faces.proofs.ChainLaws.{OnFace}
 use Rattle.file_ok.specs.Rules.{run_start}
 use Rattle.round_frame.specs.Polygons.{directions_to}
 use Rattle.round_frame.specs.Work.{DirectionsPut}
-use Rattle.round_frame.proofs.RunLaws.{polygon_low}
-use Rattle.round_frame.proofs.BoreLaws.{polygons_none, polygon_next, polygons_all}
-use native.Mathlib.Omega.{arith}
 use Rattle.round_frame.proofs.bore.face_directions.Given as goal
 
 abbrev pub invariant-loop-q : goal.invariant-loop-q

@@ -1,5 +1,4 @@
 -- `round_frame::bore::is_bore` meets its contract.
-use borrow.Author.Rules.{rules}
 use mathlib.Core.Path.{ap, ◌∙◌}
 use Rattle.round_hole.specs.Direction.{goes_round_of}
 use Rattle.round_frame.proofs.bore.is_bore.Goals as goal

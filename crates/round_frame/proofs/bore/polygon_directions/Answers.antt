@@ -1,5 +1,4 @@
 -- `round_frame::bore::polygon_directions` meets its contract.
-use borrow.Author.Rules.{rules}
 use Rattle.round_frame.proofs.RunLaws.{entry_of, entry_inside}
 use Rattle.round_frame.proofs.BoreLaws.{run_put, run_fits, run_whole}
 use Rattle.round_frame.proofs.bore.polygon_directions.Goals as goal

@@ -1,5 +1,4 @@
 -- `round_frame::bore::put_directions` meets its contract.
-use borrow.Author.Rules.{rules}
 use mathlib.Core.Path.{◌≡◌}
 use Rattle.math.specs.Vector.{minus, dot_of}
 use Rattle.round_hole.specs.Work.{Packable}

@@ -1,19 +1,13 @@
 -- `round_frame::bore::run_directions` meets its contract.
-use borrow.Author.Rules.{rules}
-use Prim.Native.Nat.{◌+◌, ◌-◌, ◌≤◌, ◌<◌}
-use mathlib.Core.List.{◌++◌}
+use Prim.Native.Nat.{◌+◌, ◌<◌}
 use native.Mathlib.Omega.{arith}
 use Rattle.file_part.specs.Layout.{vertex_count_of}
 use Rattle.file_ok.proofs.ReadableLaws.{readable_counts, readable_vertex, readable_vertex_room}
-use Rattle.solid_polygon.specs.Work.{corner_at}
-use Rattle.round_hole.specs.Work.{directions_in}
-use Rattle.round_frame.specs.Frame.{run_directions}
-use Rattle.round_frame.specs.Work.{DirectionsPut}
 use Rattle.round_frame.proofs.BoreLaws.{run_none, run_more, run_all, corner_within}
 use Rattle.round_frame.proofs.bore.run_directions.Goals as goal
 
 pub loop-k-init : goal.loop-k-init
-loop-k-init c = (omega arith, run_none _ _ _ _ _)
+loop-k-init c = run_none _ _ _ _ _
 
 pub overflow_add-first : goal.overflow_add-first
 overflow_add-first c =
@@ -31,7 +25,7 @@ corner-requires c =
 pub put_directions-m-requires : goal.put_directions-m-requires
 put_directions-m-requires c =
     let inside : c.args.first + c.loop-k.k < vertex_count_of c.args.file.now = omega (arith, c.loop-k-test.true, c.requires.fact_2) in
-    let l = c.loop-k.invariant.1 in
+    let l = c.loop-k.invariant in
     record {
       fact_1 = omega (arith, c.loop-k-test.true, l.few, l.long, c.requires.fact_3);
       fact_2 = c.requires.fact_4;
@@ -39,11 +33,7 @@ put_directions-m-requires c =
     }
 
 pub loop-k-preserved : goal.loop-k-preserved
-loop-k-preserved c =
-    (omega (arith, c.loop-k-test.true), run_more _ _ _ _ _ _ _ _ _ _ _ c.corner.ensures c.loop-k.invariant.1 c.put_directions-m.ensures)
-
-pub shape_of-cells : goal.shape_of-cells
-shape_of-cells c = c.loop-k.invariant.1.long
+loop-k-preserved c = run_more _ _ _ _ _ _ _ _ _ _ _ c.corner.ensures c.loop-k.invariant c.put_directions-m.ensures
 
 pub returns : goal.returns
-returns c = run_all _ _ _ _ _ _ _ _ _ c.loop-k.invariant.0 c.loop-k-test.false c.loop-k.invariant.1
+returns c = run_all _ _ _ _ _ _ _ _ _ c.loop-k.auto.k-end c.loop-k-test.false c.loop-k.invariant

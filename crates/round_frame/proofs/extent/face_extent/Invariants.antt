@@ -2,14 +2,9 @@
 use mathlib.Core.Path.{◌≡◌}
 use Prim.Native.Nat.{◌-◌}
 use Rattle.file_part.specs.Part.{part_of}
-use Rattle.file_ok.proofs.ReadableLaws.{readable_counts}
 use Rattle.solid_faces.specs.Faces.{face_number}
-use Rattle.solid_faces.proofs.BodyLaws.{readable_long}
-use Rattle.solid_faces.proofs.ChainLaws.{OnFace, on_first, on_next, on_rises}
+use Rattle.solid_faces.proofs.ChainLaws.{OnFace}
 use Rattle.round_frame.specs.Polygons.{extent_to}
-use Rattle.round_frame.proofs.RunLaws.{polygon_low}
-use Rattle.round_frame.proofs.ChoiceLaws.{to_all, extents_none, extents_next}
-use native.Mathlib.Omega.{arith}
 use Rattle.round_frame.proofs.extent.face_extent.Given as goal
 
 abbrev pub invariant-loop-q : goal.invariant-loop-q

@@ -1,5 +1,4 @@
 -- `round_frame::measure::measure_at` meets its contract.
-use borrow.Author.Rules.{rules}
 use mathlib.Core.Path.{refl}
 use Rattle.round_frame.specs.Measure.{measure_at}
 use Rattle.round_frame.proofs.measure.measure_at.Goals as goal

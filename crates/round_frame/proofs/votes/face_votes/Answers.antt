@@ -1,11 +1,7 @@
 -- `round_frame::votes::face_votes` meets its contract.
-use mathlib.Core.Path.{◌≡◌}
-use Prim.Native.Nat.{◌-◌}
-use Rattle.file_part.specs.Part.{part_of}
 use Rattle.file_ok.proofs.ReadableLaws.{readable_counts}
-use Rattle.solid_faces.specs.Faces.{face_number}
 use Rattle.solid_faces.proofs.BodyLaws.{readable_long}
-use Rattle.solid_faces.proofs.ChainLaws.{OnFace, on_first, on_next, on_rises}
+use Rattle.solid_faces.proofs.ChainLaws.{on_first, on_next, on_rises}
 use Rattle.round_frame.specs.Polygons.{votes_to}
 use Rattle.round_frame.proofs.RunLaws.{polygon_low}
 use Rattle.round_frame.proofs.ChoiceLaws.{to_all, votes_none, votes_next}
@@ -38,9 +34,6 @@ offset_bounds-chain-q c =
 pub bounds-chain-q : goal.bounds-chain-q
 bounds-chain-q c =
     omega (arith, polygon_low _ _ _ c.polygon_count-p.ensures c.loop-q-test.true, c.requires.readable_2.long)
-
-pub overflow_cast-q : goal.overflow_cast-q
-overflow_cast-q c = omega (arith, c.shared_slice_known-in-loop-q-1.given c.loop-q.q)
 
 pub loop-q-smaller : goal.loop-q-smaller
 loop-q-smaller c =

@@ -1,5 +1,4 @@
 -- `round_frame::votes::normal_at` meets its contract.
-use borrow.Author.Rules.{rules}
 use mathlib.Core.Path.{refl}
 use Rattle.solid_faces.specs.Kept.{plane_at_of}
 use Rattle.round_frame.proofs.votes.normal_at.Goals as goal

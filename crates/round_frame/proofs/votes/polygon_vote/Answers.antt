@@ -1,5 +1,4 @@
 -- `round_frame::votes::polygon_vote` meets its contract.
-use borrow.Author.Rules.{rules}
 use mathlib.Core.Path.{ap, ◌∙◌}
 use native.Mathlib.Omega.{arith}
 use Rattle.solid_polygon.specs.declared.polygon.Plane.{Plane}

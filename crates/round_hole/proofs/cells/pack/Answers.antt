@@ -1,5 +1,4 @@
 -- `round_hole::cells::pack` meets its contract.
-use borrow.Author.Rules.{rules}
 use Rattle.round_hole.proofs.CellLaws.{moved_fits, moved_cast, high_fits, bits_fit, packed}
 use Rattle.round_hole.proofs.cells.pack.Goals as goal
 

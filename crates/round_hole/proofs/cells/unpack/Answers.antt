@@ -1,5 +1,4 @@
 -- `round_hole::cells::unpack` meets its contract.
-use borrow.Author.Rules.{rules}
 use Rattle.round_hole.proofs.CellLaws.{half_fits, half_moved_fits, upper_below, lower_below, unpacked_near}
 use Rattle.round_hole.proofs.cells.unpack.Goals as goal
 

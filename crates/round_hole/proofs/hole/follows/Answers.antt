@@ -1,7 +1,6 @@
 -- `round_hole::hole::follows` meets its contract.
 use native.Mathlib.Nat.{le_refl}
 use lib.Dec.{lit≤}
-use borrow.Author.Rules.{rules}
 use Rattle.round_hole.proofs.WholeLaws.{scaled_fits, follows_is}
 use Rattle.round_hole.proofs.hole.follows.Goals as goal
 

@@ -1,7 +1,6 @@
 -- `round_hole::hole::some_follows` meets its contract.
-use Prim.Native.Nat.{◌-◌, ◌*◌, ◌≤◌}
+use Prim.Native.Nat.{◌*◌, ◌≤◌}
 use native.Mathlib.Omega.{arith}
-use borrow.Author.Rules.{rules}
 use Rattle.round_hole.proofs.RoundLaws.{followed_near, followed_all}
 use Rattle.round_hole.proofs.hole.some_follows.Goals as goal
 

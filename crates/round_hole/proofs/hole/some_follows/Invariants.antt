@@ -1,8 +1,5 @@
 -- `round_hole::hole::some_follows` meets its contract.
-use Prim.Native.Nat.{◌-◌, ◌*◌, ◌≤◌}
-use native.Mathlib.Omega.{arith}
-use borrow.Author.Rules.{rules}
-use Rattle.round_hole.proofs.RoundLaws.{followed_near, followed_all}
+use Prim.Native.Nat.{◌-◌, ◌≤◌}
 use Rattle.round_hole.proofs.hole.some_follows.Given as goal
 
 abbrev pub invariant-loop-w : goal.invariant-loop-w

@@ -1,7 +1,6 @@
 -- `round_hole::hole::some_from` meets its contract.
 use native.Mathlib.Omega.{arith}
 use native.Mathlib.Nat.{le_refl}
-use borrow.Author.Rules.{rules}
 use Rattle.round_hole.proofs.RoundLaws.{found_among, found_true}
 use Rattle.round_hole.proofs.hole.some_from.Goals as goal
 

@@ -1,5 +1,4 @@
 -- `round_hole::hole::some_near` meets its contract.
-use borrow.Author.Rules.{rules}
 use Rattle.round_hole.proofs.RoundLaws.{found_true}
 use Rattle.round_hole.proofs.hole.some_near.Goals as goal
 

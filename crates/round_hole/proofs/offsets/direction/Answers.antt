@@ -1,7 +1,6 @@
 -- `round_hole::offsets::direction` meets its contract.
 use mir.Syntax.{w64}
 use mir.Facts.{to_z-of_z}
-use borrow.Author.Rules.{rules}
 use Rattle.round_hole.proofs.DirectionLaws.{direction_whole}
 use Rattle.round_hole.proofs.offsets.direction.Goals as goal
 

@@ -1,5 +1,4 @@
 -- `round_hole::offsets::length` meets its contract.
-use borrow.Author.Rules.{rules}
 use Rattle.round_hole.specs.Direction.{length_of}
 use Rattle.round_hole.proofs.offsets.length.Goals as goal
 

@@ -1,17 +1,10 @@
 -- `rule_corners::corner::put_corners` meets its contract: the corners of the segments passed are kept.
-use Rattle.rule_corners.proofs.CornerLaws.{corners_none, all_put}
-use Rattle.solid_tours.proofs.PutLaws.{still_standing, still_ranked}
-use Prim.Native.Nat.{◌-◌, ◌≤◌}
-use native.Mathlib.Omega.{arith}
+use Prim.Native.Nat.{◌≤◌}
 use lib.Ieee.{nan}
 use Rattle.list_laws.specs.Region.{Outside}
-use Rattle.list_laws.proofs.Outside.{outside_none, outside_then}
 use Rattle.file_part.specs.Part.{part_of}
 use Rattle.rule_corners.specs.Work.{CornersTo}
 use Rattle.rule_corners.proofs.corner.put_corners.Given as goal
 
 abbrev pub invariant-loop-s : goal.invariant-loop-s
-invariant-loop-s l = (l.s ≤ l.vertices) × (l.m ≤ l.s) × CornersTo (part_of l.file) l.at l.s l.m l.words l.reals × Outside 0 l.at.items l.at.sorted l.initial.words l.words × Outside nan l.at.directions l.at.free l.initial.reals l.reals
-
-abbrev pub decreases-loop-s : goal.decreases-loop-s
-decreases-loop-s l = l.vertices - l.s
+invariant-loop-s l = (l.m ≤ l.s) × CornersTo (part_of l.file) l.at l.s l.m l.words l.reals × Outside 0 l.at.items l.at.sorted l.initial.words l.words × Outside nan l.at.directions l.at.free l.initial.reals l.reals

@@ -1,8 +1,6 @@
 -- `rule_corners::segment::is_concave` meets its contract.
-use borrow.Author.Rules.{rules}
 use Rattle.rule_corners.proofs.SegmentLaws.{level, leaning}
 use mathlib.Core.Path.{◌∙◌}
-use borrow.Author.Tests.{not-true, not-false}
 use native.Mathlib.Omega.{arith}
 use Rattle.rule_corners.proofs.segment.is_concave.Goals as goal
 

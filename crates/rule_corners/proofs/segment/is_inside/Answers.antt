@@ -1,6 +1,5 @@
 -- `rule_corners::segment::is_inside` meets its contract.
 use Rattle.rule_corners.proofs.SegmentLaws.{near_curved, far_curved, both_flat}
-use borrow.Author.Tests.{not-true, not-false}
 use Rattle.file_part.proofs.PartLaws.{part_polygons}
 use Rattle.scratch.proofs.StandingLaws.{placed_polygons}
 use native.Mathlib.Omega.{arith}

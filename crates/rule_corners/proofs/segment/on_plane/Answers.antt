@@ -1,5 +1,4 @@
 -- `rule_corners::segment::on_plane` meets its contract.
-use borrow.Author.Rules.{rules}
 use Rattle.rule_corners.proofs.SegmentLaws.{surface_is}
 use mathlib.Core.Path.{refl}
 use Rattle.solid_faces.proofs.BodyLaws.{entry_room, checked_readable}

@@ -1,5 +1,4 @@
 -- `rule_corners::segment::segment_length` meets its contract.
-use borrow.Author.Rules.{rules}
 use Rattle.rule_corners.proofs.SegmentLaws.{length_is}
 use Rattle.file_ok.proofs.ReadableLaws.{readable_length}
 use Rattle.solid_faces.proofs.BodyLaws.{checked_readable}

@@ -1,5 +1,4 @@
 -- `rule_corners::sharp::fillet_of` meets its contract.
-use borrow.Author.Rules.{rules}
 use Rattle.rule_corners.specs.Sharp.{fillet_of}
 use Rattle.rule_corners.proofs.sharp.fillet_of.Goals as goal
 

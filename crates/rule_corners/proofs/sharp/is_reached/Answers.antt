@@ -1,5 +1,4 @@
 -- `rule_corners::sharp::is_reached` meets its contract.
-use borrow.Author.Rules.{rules}
 use Rattle.rule_corners.proofs.SharpLaws.{reached_first, reached_second}
 use Rattle.rule_corners.proofs.sharp.is_reached.Goals as goal
 

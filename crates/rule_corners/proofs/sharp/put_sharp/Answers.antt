@@ -1,5 +1,4 @@
 -- `rule_corners::sharp::put_sharp` meets its contract.
-use borrow.Author.Rules.{rules}
 use native.Mathlib.Omega.{arith}
 use Rattle.rule_corners.proofs.SharpLaws.{sharp_none, sharp_one}
 use Rattle.solid_faces.proofs.BodyLaws.{checked_faces}

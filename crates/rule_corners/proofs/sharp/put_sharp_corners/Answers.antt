@@ -1,9 +1,6 @@
 -- `rule_corners::sharp::put_sharp_corners` meets its contract: the faults of the faces passed are put.
 use native.Mathlib.Omega.{arith}
 use Rattle.rule_corners.proofs.SharpLaws.{sharp_start, sharp_more, sharp_end}
-use Prim.Native.Nat.{◌+◌, ◌-◌, ◌≤◌}
-use Rattle.file_part.specs.Part.{part_of}
-use Rattle.rule_corners.specs.Work.{SharpTo}
 use Rattle.rule_corners.proofs.WalkLaws.{most}
 use Rattle.rule_corners.proofs.sharp.put_sharp_corners.Goals as goal
 

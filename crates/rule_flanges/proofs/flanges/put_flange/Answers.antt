@@ -1,5 +1,4 @@
 -- `rule_flanges::flanges::put_flange` meets its contract: a row where the test of dfm.rs is met.
-use borrow.Author.Rules.{rules}
 use Rattle.rule_flanges.specs.Flanges.{min_flange}
 use Rattle.rule_flanges.proofs.FlangeLaws.{flange_none, flange_one}
 use Rattle.rule_flanges.proofs.flanges.put_flange.Goals as goal

@@ -1,5 +1,4 @@
 -- `rule_flanges::legs::add_leg` meets its contract: its three cells are written after those of the others.
-use borrow.Author.Rules.{rules}
 use mathlib.Core.Path.{sym, ◌∙◌}
 use Rattle.scratch.proofs.StandingLaws.{placed_vertices}
 use Rattle.round_all.proofs.PutLaws.{face_low}

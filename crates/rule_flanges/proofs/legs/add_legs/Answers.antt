@@ -1,11 +1,9 @@
 -- `rule_flanges::legs::add_legs` meets its contract: the neighbours that are passed; one leg each at most, so there is room.
 use mathlib.Core.Path.{ap}
-use Prim.Native.Nat.{◌-◌}
-use Rattle.file_part.specs.Part.{part_of}
 use Rattle.solid_tours.proofs.PlaceLaws.{readable}
 use Rattle.round_all.specs.declared.round.Round.{Round}
 use Rattle.rule_flanges.proofs.LegLaws.{round_same}
-use Rattle.rule_flanges.proofs.WalkLaws.{LegsTo, legs_start, legs_room, legs_next, legs_end}
+use Rattle.rule_flanges.proofs.WalkLaws.{legs_start, legs_room, legs_next, legs_end}
 use native.Mathlib.Omega.{arith}
 use Rattle.rule_flanges.proofs.legs.add_legs.Goals as goal
 

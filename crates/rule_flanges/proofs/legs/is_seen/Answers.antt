@@ -1,11 +1,5 @@
 -- `rule_flanges::legs::is_seen` meets its contract: no leg that is passed is along.
-use borrow.Author.Rules.{rules}
-use mathlib.Core.Path.{◌≡◌, sym}
-use mathlib.Core.Bool.{false}
-use Prim.Native.Nat.{◌-◌, ◌≤◌}
-use Rattle.file_part.specs.Part.{part_of}
-use Rattle.rule_flanges.specs.Flanges.{is_seen}
-use Rattle.rule_flanges.specs.Work.{legs_in}
+use mathlib.Core.Path.{sym}
 use Rattle.rule_flanges.proofs.LegLaws.{along_by, seen_none, seen_more, seen_all, seen_found, leg_there}
 use native.Mathlib.Omega.{arith}
 use Rattle.rule_flanges.proofs.legs.is_seen.Goals as goal
@@ -18,7 +12,7 @@ face_normal-normal-requires c =
     }
 
 pub loop-i-init : goal.loop-i-init
-loop-i-init c = (omega arith, seen_none _ _ _)
+loop-i-init c = seen_none _ _ _
 
 pub leg_at-leg-requires : goal.leg_at-leg-requires
 leg_at-leg-requires c = omega (arith, c.loop-i-test.true, c.requires.fact_2.room)
@@ -34,7 +28,7 @@ pub returns-then-abs : goal.returns-then-abs
 returns-then-abs c = sym (seen_found _ _ _ c.loop-i.i c.args.n c.loop-i-test.true (along_by _ _ _ _ _ _ _ _ _ _ c.leg_at-leg.ensures c.face_normal-other.ensures c.face_normal-normal.ensures c.dot.ensures c.abs.ensures c.if-abs.true))
 
 pub loop-i-preserved : goal.loop-i-preserved
-loop-i-preserved c = (omega (arith, c.loop-i-test.true), seen_more _ _ _ c.loop-i.i c.loop-i.invariant.1 (along_by _ _ _ _ _ _ _ _ _ _ c.leg_at-leg.ensures c.face_normal-other.ensures c.face_normal-normal.ensures c.dot.ensures c.abs.ensures c.if-abs.false))
+loop-i-preserved c = seen_more _ _ _ c.loop-i.i c.loop-i.invariant (along_by _ _ _ _ _ _ _ _ _ _ c.leg_at-leg.ensures c.face_normal-other.ensures c.face_normal-normal.ensures c.dot.ensures c.abs.ensures c.if-abs.false)
 
 pub returns : goal.returns
-returns c = seen_all _ _ _ _ _ c.loop-i.invariant.0 c.loop-i-test.false c.loop-i.invariant.1
+returns c = seen_all _ _ _ _ _ (omega arith) c.loop-i-test.false c.loop-i.invariant

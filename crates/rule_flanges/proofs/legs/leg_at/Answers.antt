@@ -1,5 +1,4 @@
 -- `rule_flanges::legs::leg_at` meets its contract: its three cells.
-use borrow.Author.Rules.{rules}
 use Rattle.rule_flanges.proofs.LegLaws.{leg_is}
 use native.Mathlib.Omega.{arith}
 use Rattle.rule_flanges.proofs.legs.leg_at.Goals as goal

@@ -1,5 +1,4 @@
 -- `rule_flanges::legs::runs_on` meets its contract: the tests of dfm.rs, one after the other.
-use borrow.Author.Rules.{rules}
 use mathlib.Core.Path.{sym, ◌∙◌, ap}
 use Rattle.rule_flanges.proofs.LegLaws.{not_true, not_false, runs_not_flat, runs_not_bend, runs_by}
 use mathlib.Core.Bool.{not}

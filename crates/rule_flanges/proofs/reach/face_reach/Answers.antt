@@ -1,11 +1,7 @@
 -- `rule_flanges::reach::face_reach` meets its contract: the polygons of the face that are passed.
-use mathlib.Core.Path.{◌≡◌}
-use Prim.Native.Nat.{◌-◌}
-use Rattle.file_part.specs.Part.{part_of}
 use Rattle.file_ok.proofs.ReadableLaws.{readable_counts}
-use Rattle.solid_faces.specs.Faces.{face_number}
 use Rattle.solid_faces.proofs.BodyLaws.{readable_long}
-use Rattle.solid_faces.proofs.ChainLaws.{OnFace, on_first, on_next, on_rises}
+use Rattle.solid_faces.proofs.ChainLaws.{on_first, on_next, on_rises}
 use Rattle.round_frame.proofs.RunLaws.{polygon_low}
 use Rattle.round_frame.proofs.ChoiceLaws.{to_all}
 use Rattle.rule_flanges.specs.Flanges.{reach_to}

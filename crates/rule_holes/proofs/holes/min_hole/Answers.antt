@@ -1,5 +1,4 @@
 -- `rule_holes::holes::min_hole` meets its contract.
-use borrow.Author.Rules.{rules}
 use Rattle.rule_holes.proofs.LimitLaws.{hardened, soft}
 use Rattle.rule_holes.proofs.holes.min_hole.Goals as goal
 

@@ -1,5 +1,4 @@
 -- `rule_holes::holes::put_close` meets its contract: a row where the test of dfm.rs is met.
-use borrow.Author.Rules.{rules}
 use Rattle.rule_holes.proofs.HoleLaws.{close_one, close_none}
 use Rattle.rule_holes.proofs.holes.put_close.Goals as goal
 

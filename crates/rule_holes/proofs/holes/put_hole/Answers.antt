@@ -1,7 +1,5 @@
 -- `rule_holes::holes::put_hole` meets its contract: one rule after the other.
-use borrow.Author.Rules.{rules}
 use mathlib.Core.Path.{◌∙◌}
-use borrow.Author.Tests.{not-true, not-false}
 use Rattle.solid_faces.proofs.BodyLaws.{checked_faces}
 use Rattle.rule_holes.proofs.NearestLaws.{there_below}
 use Rattle.rule_holes.proofs.HoleLaws.{hole_alone, hole_close}
@@ -26,8 +24,8 @@ put_plates-requires c =
       file_in_bounds = g.file_in_bounds_1;
     }
 
-pub nearest_of-nearest-requires : goal.nearest_of-nearest-requires
-nearest_of-nearest-requires c =
+pub nearest_of-requires : goal.nearest_of-requires
+nearest_of-requires c =
     let g = c.requires in
     record {
       edges_ordered_1 = g.sheet_stands_1.ordered;
@@ -36,20 +34,11 @@ nearest_of-nearest-requires c =
       plates = c.put_plates.ensures.fact_1;
     }
 
-pub shape_of-cells-then-not-nearest : goal.shape_of-cells-then-not-nearest
-shape_of-cells-then-not-nearest c = c.put_small_hole-k.auto.cells
-
-pub shape_of-numbers-then-not-nearest : goal.shape_of-numbers-then-not-nearest
-shape_of-numbers-then-not-nearest c = c.put_small_hole-k.auto.numbers
-
-pub shape_of-plates-then-not-nearest : goal.shape_of-plates-then-not-nearest
-shape_of-plates-then-not-nearest c = c.put_plates.ensures.fact_2
-
-pub returns-then-not-nearest : goal.returns-then-not-nearest
-returns-then-not-nearest c =
+pub returns-in_default : goal.returns-in_default
+returns-in_default c =
     let g = c.requires in
     record {
-      flaws_put = hole_alone _ _ _ _ g.sheet_stands_1 g.sheet_stands_2 _ g.sheet_stands_3 _ g.face_bound_1 g.face_bound_2 g.face_bound_3 g.face_bound_4 _ c.nearest_of-nearest.ensures.fact_1 (not-true _ c.if-not-nearest.true) c.put_small_hole-k.ensures;
+      flaws_put = hole_alone _ _ _ _ g.sheet_stands_1 g.sheet_stands_2 _ g.sheet_stands_3 _ g.face_bound_1 g.face_bound_2 g.face_bound_3 g.face_bound_4 _ c.nearest_of.ensures.fact_1 c.in_default.is c.put_small_hole-k.ensures;
       upper_bound_1 = omega (arith, c.put_small_hole-k.ensures.few);
       upper_bound_2 = c.put_plates.ensures.fact_2;
     }
@@ -58,7 +47,7 @@ pub is_bend_face-near_bend-requires : goal.is_bend_face-near_bend-requires
 is_bend_face-near_bend-requires c =
     record {
       fact_1 = c.requires.sheet_stands_1;
-      fact_2 = there_below _ _ c.nearest_of-nearest.ensures.fact_2;
+      fact_2 = there_below _ _ c.in-Some.ensures.fact_2;
     }
 
 pub put_close-requires : goal.put_close-requires
@@ -67,7 +56,7 @@ put_close-requires c =
     record {
       fact_1 = omega (arith, c.put_small_hole-k.ensures.few, g.file_in_bounds_2);
       fact_2 = omega (arith, g.face_bound_1, checked_faces _ g.sheet_stands_1.ordered.standing.placed.checked);
-      fact_3 = omega (arith, there_below _ _ c.nearest_of-nearest.ensures.fact_2, checked_faces _ g.sheet_stands_1.ordered.standing.placed.checked);
+      fact_3 = omega (arith, there_below _ _ c.in-Some.ensures.fact_2, checked_faces _ g.sheet_stands_1.ordered.standing.placed.checked);
     }
 
 pub shape_of-cells : goal.shape_of-cells
@@ -83,7 +72,7 @@ pub returns : goal.returns
 returns c =
     let g = c.requires in
     record {
-      flaws_put = hole_close _ _ _ _ g.sheet_stands_1 g.sheet_stands_2 _ g.sheet_stands_3 _ g.face_bound_1 g.face_bound_2 g.face_bound_3 g.face_bound_4 _ c.nearest_of-nearest.ensures.fact_1 (not-false _ c.if-not-nearest.false) _ c.is_bend_face-near_bend.ensures _ c.need.ensures (there_below _ _ c.nearest_of-nearest.ensures.fact_2) c.put_small_hole-k.ensures c.put_close.ensures;
+      flaws_put = hole_close _ _ _ _ g.sheet_stands_1 g.sheet_stands_2 _ g.sheet_stands_3 _ g.face_bound_1 g.face_bound_2 g.face_bound_3 g.face_bound_4 _ c.nearest_of.ensures.fact_1 _ c.in-Some.is _ c.is_bend_face-near_bend.ensures _ c.need.ensures (there_below _ _ c.in-Some.ensures.fact_2) c.put_small_hole-k.ensures c.put_close.ensures;
       upper_bound_1 = omega (arith, c.put_small_hole-k.ensures.few, c.put_close.ensures.few);
       upper_bound_2 = c.put_plates.ensures.fact_2;
     }

@@ -1,5 +1,4 @@
 -- `rule_holes::holes::put_small_hole` meets its contract: a row where the test of dfm.rs is met.
-use borrow.Author.Rules.{rules}
 use Rattle.measure_sizes.specs.Round.{diameter_of}
 use Rattle.rule_holes.proofs.HoleLaws.{small_one, small_none}
 use Rattle.rule_holes.proofs.holes.put_small_hole.Goals as goal

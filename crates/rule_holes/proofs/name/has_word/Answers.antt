@@ -1,33 +1,26 @@
 -- `rule_holes::name::has_word` meets its contract: the word starts at none of the places that are passed.
 use mathlib.Core.Path.{sym, ◌∙◌}
-use Prim.Native.Nat.{◌-◌, ◌≤◌}
-use Rattle.rule_holes.proofs.NameLaws.{NoneTo, none_start, none_found, none_more, none_end}
+use Rattle.rule_holes.proofs.NameLaws.{none_start, none_found, none_more, none_end}
 use native.Mathlib.Omega.{arith}
 use Rattle.rule_holes.proofs.name.has_word.Goals as goal
 
 pub loop-at-init : goal.loop-at-init
-loop-at-init c = (omega arith, none_start _ _)
+loop-at-init c = none_start _ _
 
 pub starts_with-requires : goal.starts_with-requires
 starts_with-requires c = omega (arith, c.loop-at-test.true)
 
 pub returns-then-starts_with : goal.returns-then-starts_with
 returns-then-starts_with c =
-    none_found _ _ c.loop-at.at (omega (arith, c.loop-at-test.true)) c.loop-at.invariant.1 (sym c.starts_with.ensures ∙ c.if-starts_with.true)
-
-pub overflow_add-at : goal.overflow_add-at
-overflow_add-at c = omega (arith, c.loop-at-test.true)
-
-pub loop-at-smaller : goal.loop-at-smaller
-loop-at-smaller c = omega (arith, c.loop-at-test.true)
+    none_found _ _ c.loop-at.at (omega (arith, c.loop-at-test.true)) c.loop-at.invariant (sym c.starts_with.ensures ∙ c.if-starts_with.true)
 
 pub loop-at-preserved : goal.loop-at-preserved
 loop-at-preserved c =
-    (omega (arith, c.loop-at-test.true), none_more _ _ c.loop-at.at (omega (arith, c.loop-at-test.true)) c.loop-at.invariant.1 (sym c.starts_with.ensures ∙ c.if-starts_with.false))
+    none_more _ _ c.loop-at.at (omega (arith, c.loop-at-test.true)) c.loop-at.invariant (sym c.starts_with.ensures ∙ c.if-starts_with.false)
 
 pub starts_with-requires-2 : goal.starts_with-requires-2
 starts_with-requires-2 c = omega arith
 
 pub returns : goal.returns
 returns c =
-    c.starts_with-2.ensures ∙ none_end _ _ c.loop-at.at (omega (arith, c.loop-at-test.false)) c.loop-at.invariant.1
+    c.starts_with-2.ensures ∙ none_end _ _ c.loop-at.at (omega (arith, c.loop-at-test.false)) c.loop-at.invariant

@@ -1,5 +1,4 @@
 -- `rule_holes::name::is_named` meets its contract: the word is looked for in a part of the file.
-use borrow.Author.Rules.{rules}
 use Rattle.rule_holes.proofs.NameLaws.{named_room, named_is, named_none}
 use native.Mathlib.Omega.{arith}
 use Rattle.rule_holes.proofs.name.is_named.Goals as goal

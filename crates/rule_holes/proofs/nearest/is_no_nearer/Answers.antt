@@ -1,5 +1,6 @@
 -- `rule_holes::nearest::is_no_nearer` meets its contract: none of its squares is below one whose root is far enough.
-use borrow.Author.Rules.{rules}
+use mathlib.Core.Path.{sym, subst}
+use Rattle.rule_holes.specs.Work.{NoNearer}
 use Rattle.rule_holes.proofs.NearestLaws.{no_nearer}
 use Rattle.rule_holes.proofs.nearest.is_no_nearer.Goals as goal
 
@@ -15,4 +16,4 @@ pub sqrt-requires : goal.sqrt-requires
 sqrt-requires c = tt
 
 pub returns : goal.returns
-returns c = λ h. no_nearer _ _ _ _ _ _ _ c.between_square-least.ensures c.sqrt.ensures h
+returns c = λ h. subst (NoNearer _ _ _) (sym c.in-Some.is) (no_nearer _ _ _ _ _ _ _ c.between_square-least.ensures c.sqrt.ensures h)

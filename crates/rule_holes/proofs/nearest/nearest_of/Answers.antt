@@ -1,8 +1,5 @@
 -- `rule_holes::nearest::nearest_of` meets its contract: a tour of the hole's neighbours.
-use Prim.Native.Nat.{◌-◌}
-use Rattle.file_part.specs.Part.{part_of}
-use Rattle.rule_holes.specs.Nearest.{nothing, gaps_from}
-use Rattle.rule_holes.proofs.NearestLaws.{NearestTo, nothing_there, nearest_start, nearest_more, nearest_end, nearest_of_end}
+use Rattle.rule_holes.proofs.NearestLaws.{none_there, nearest_start, nearest_more, nearest_end, nearest_of_end}
 use native.Mathlib.Omega.{arith}
 use Rattle.rule_holes.proofs.nearest.nearest_of.Goals as goal
 
@@ -16,10 +13,9 @@ face_places-places-requires c =
     }
 
 pub loop-i-init : goal.loop-i-init
-unfolding nothing
 loop-i-init c =
     let g = c.requires in
-    nearest_start _ _ _ _ g.edges_ordered_1 _ _ _ _ c.face_places-places.ensures (nothing_there _ _ g.edges_ordered_3)
+    nearest_start _ _ _ _ g.edges_ordered_1 _ _ _ _ c.face_places-places.ensures (none_there _)
 
 pub next_group-group-requires : goal.next_group-group-requires
 next_group-group-requires c =

@@ -1,5 +1,4 @@
 -- `rule_holes::nearest::put_plate` meets its contract: a mark where the face is flat.
-use borrow.Author.Rules.{rules}
 use Rattle.solid_faces.proofs.BodyLaws.{checked_faces}
 use Rattle.rule_holes.proofs.ChoiceLaws.{chosen_first, chosen_second}
 use native.Mathlib.Omega.{arith}
@@ -24,5 +23,5 @@ bounds-plates-g c = c.requires.fact_3
 pub returns-then-is_flat : goal.returns-then-is_flat
 returns-then-is_flat c = chosen_first _ _ c.is_flat.ensures c.if-is_flat.true
 
-pub returns : goal.returns
-returns c = chosen_second _ _ c.is_flat.ensures c.if-is_flat.false
+pub returns-else-is_flat : goal.returns-else-is_flat
+returns-else-is_flat c = chosen_second _ _ c.is_flat.ensures c.if-is_flat.false

@@ -1,10 +1,6 @@
 -- `rule_holes::nearest::put_plates` meets its contract: the flat faces that are met are marked.
-use borrow.Author.Rules.{rules}
-use mathlib.Core.Path.{◌≡◌, refl, ◌∙◌}
-use Prim.Native.Nat.{◌-◌}
-use lib.ListN.{length}
-use Rattle.file_part.specs.Part.{part_of}
-use Rattle.rule_holes.proofs.NearestLaws.{PlatesTo, plates_start, plates_room, plates_more, plates_end}
+use mathlib.Core.Path.{refl, ◌∙◌}
+use Rattle.rule_holes.proofs.NearestLaws.{plates_start, plates_room, plates_more, plates_end}
 use native.Mathlib.Omega.{arith}
 use Rattle.rule_holes.proofs.nearest.put_plates.Goals as goal
 
@@ -20,7 +16,7 @@ face_places-places-requires c =
 pub loop-i-init : goal.loop-i-init
 loop-i-init c =
     let g = c.requires in
-    (plates_start _ _ _ _ g.edges_ordered_1 _ _ _ _ c.face_places-places.ensures c.fill_words.ensures g.file_in_bounds, refl)
+    (plates_start _ _ _ _ g.edges_ordered_1 _ _ _ _ c.face_places-places.ensures c.fill.ensures g.file_in_bounds, refl)
 
 pub next_group-group-requires : goal.next_group-group-requires
 next_group-group-requires c =
@@ -50,12 +46,12 @@ loop-i-preserved c =
     (plates_more _ _ _ _ c.requires.edges_ordered_1 _ c.loop-i.invariant.0 _ _ c.next_group-group.ensures c.put_plate.ensures, c.put_plate.auto.plates ∙ c.loop-i.invariant.1)
 
 pub shape_of-plates : goal.shape_of-plates
-shape_of-plates c = c.loop-i.invariant.1 ∙ c.fill_words.auto.cells
+shape_of-plates c = c.loop-i.invariant.1 ∙ c.fill.auto.cells
 
 pub returns : goal.returns
 returns c =
     let g = c.requires in
     record {
       fact_1 = plates_end _ _ _ _ g.edges_ordered_1 _ c.loop-i.invariant.0 g.edges_ordered_3 c.loop-i-test.false;
-      fact_2 = c.loop-i.invariant.1 ∙ c.fill_words.auto.cells;
+      fact_2 = c.loop-i.invariant.1 ∙ c.fill.auto.cells;
     }

@@ -1,11 +1,9 @@
 -- `rule_holes::nearest::put_plates` meets its contract: the flat faces that are met are marked.
-use borrow.Author.Rules.{rules}
-use mathlib.Core.Path.{◌≡◌, refl, ◌∙◌}
+use mathlib.Core.Path.{◌≡◌}
 use Prim.Native.Nat.{◌-◌}
 use lib.ListN.{length}
 use Rattle.file_part.specs.Part.{part_of}
-use Rattle.rule_holes.proofs.NearestLaws.{PlatesTo, plates_start, plates_room, plates_more, plates_end}
-use native.Mathlib.Omega.{arith}
+use Rattle.rule_holes.proofs.NearestLaws.{PlatesTo}
 use Rattle.rule_holes.proofs.nearest.put_plates.Given as goal
 
 abbrev pub invariant-loop-i : goal.invariant-loop-i

@@ -1,5 +1,4 @@
 -- `rule_holes::nearest::with_group` meets its contract: the hole itself and the flat faces around it are left out, and what is known to be no nearer.
-use borrow.Author.Rules.{rules}
 use mathlib.Core.Path.{refl}
 use Rattle.rule_holes.proofs.NearestLaws.{group_own, group_marked, group_farther, group_nearer, nearer_kept, mark_bytes}
 use native.Mathlib.Omega.{arith}
@@ -46,9 +45,6 @@ between_distance-requires c =
       fact_1 = c.requires.edges_ordered_1;
       fact_2 = c.requires.edges_ordered_3;
     }
-
-pub nearer-requires : goal.nearer-requires
-nearer-requires c = tt
 
 pub returns : goal.returns
 returns c =

@@ -1,8 +1,5 @@
 -- `rule_holes::nearest::with_plate` meets its contract: a tour of the face's neighbours.
-use Prim.Native.Nat.{◌-◌}
-use Rattle.file_part.specs.Part.{part_of}
-use Rattle.rule_holes.specs.Nearest.{gap_to}
-use Rattle.rule_holes.proofs.NearestLaws.{NearestTo, nearest_start, nearest_more, nearest_end, group_same, beside_end}
+use Rattle.rule_holes.proofs.NearestLaws.{nearest_start, nearest_more, nearest_end, group_same, beside_end}
 use native.Mathlib.Omega.{arith}
 use Rattle.rule_holes.proofs.nearest.with_plate.Goals as goal
 

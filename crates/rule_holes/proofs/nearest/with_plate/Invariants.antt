@@ -2,8 +2,7 @@
 use Prim.Native.Nat.{◌-◌}
 use Rattle.file_part.specs.Part.{part_of}
 use Rattle.rule_holes.specs.Nearest.{gap_to}
-use Rattle.rule_holes.proofs.NearestLaws.{NearestTo, nearest_start, nearest_more, nearest_end, group_same, beside_end}
-use native.Mathlib.Omega.{arith}
+use Rattle.rule_holes.proofs.NearestLaws.{NearestTo}
 use Rattle.rule_holes.proofs.nearest.with_plate.Given as goal
 
 abbrev pub invariant-loop-i : goal.invariant-loop-i

@@ -1,5 +1,4 @@
 -- `rule_machining::rounds::put_deep_corner` meets its contract: a flaw where the test of dfm.rs is met.
-use borrow.Author.Rules.{rules}
 use Rattle.measure_sizes.specs.Round.{diameter_of, ratio_of}
 use Rattle.rule_machining.proofs.RoundLaws.{deep_corner_one, deep_corner_none}
 use Rattle.rule_machining.proofs.rounds.put_deep_corner.Goals as goal

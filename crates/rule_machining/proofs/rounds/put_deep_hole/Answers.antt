@@ -1,5 +1,4 @@
 -- `rule_machining::rounds::put_deep_hole` meets its contract: a flaw where a test of dfm.rs is met.
-use borrow.Author.Rules.{rules}
 use Rattle.measure_sizes.specs.Round.{diameter_of, ratio_of}
 use Rattle.rule_machining.proofs.RoundLaws.{deep_hole_max_one, deep_hole_standard_one, deep_hole_none}
 use Rattle.rule_machining.proofs.rounds.put_deep_hole.Goals as goal

@@ -1,5 +1,4 @@
 -- `rule_machining::rounds::put_hole` meets its contract: one rule after the other.
-use borrow.Author.Rules.{rules}
 use Rattle.rule_machining.proofs.RoundLaws.{hole_faults}
 use native.Mathlib.Omega.{arith}
 use Rattle.rule_machining.proofs.rounds.put_hole.Goals as goal

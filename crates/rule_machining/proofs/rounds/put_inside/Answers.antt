@@ -1,5 +1,4 @@
 -- `rule_machining::rounds::put_inside` meets its contract: one rule after the other.
-use borrow.Author.Rules.{rules}
 use Rattle.rule_machining.proofs.RoundLaws.{inside_faults}
 use native.Mathlib.Omega.{arith}
 use Rattle.rule_machining.proofs.rounds.put_inside.Goals as goal

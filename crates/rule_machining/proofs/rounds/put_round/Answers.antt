@@ -1,5 +1,4 @@
 -- `rule_machining::rounds::put_round` meets its contract: by what the round is.
-use borrow.Author.Rules.{rules}
 use borrow.Author.Tests.{not-true, not-false}
 use Rattle.rule_machining.proofs.RoundLaws.{convex_none, hole_put, inside_put}
 use Rattle.rule_machining.proofs.rounds.put_round.Goals as goal

@@ -1,5 +1,4 @@
 -- `rule_machining::rounds::put_small_hole` meets its contract: a flaw where the test of dfm.rs is met.
-use borrow.Author.Rules.{rules}
 use Rattle.measure_sizes.specs.Round.{diameter_of}
 use Rattle.rule_machining.proofs.RoundLaws.{small_hole_one, small_hole_none}
 use Rattle.rule_machining.proofs.rounds.put_small_hole.Goals as goal

@@ -1,5 +1,4 @@
 -- `rule_machining::rounds::put_tight_radius` meets its contract: a flaw where the test of dfm.rs is met.
-use borrow.Author.Rules.{rules}
 use Rattle.rule_machining.proofs.RoundLaws.{tight_radius_one, tight_radius_none}
 use Rattle.rule_machining.proofs.rounds.put_tight_radius.Goals as goal
 

@@ -1,5 +1,4 @@
 -- `rule_machining::walls::put_thin_wall` meets its contract: a flaw where the test of dfm.rs is met.
-use borrow.Author.Rules.{rules}
 use Rattle.rule_machining.proofs.WallLaws.{thin_wall_one, thin_wall_none}
 use Rattle.rule_machining.proofs.walls.put_thin_wall.Goals as goal
 

@@ -1,7 +1,5 @@
 -- `rule_machining::walls::put_thin_walls` meets its contract: the faults of the walls that are passed are put.
-use Prim.Native.Nat.{◌+◌, ◌-◌, ◌≤◌}
-use Rattle.file_part.specs.Part.{part_of}
-use Rattle.rule_machining.proofs.WallLaws.{WallsMet, met_none, wall_room, met_next, met_all}
+use Rattle.rule_machining.proofs.WallLaws.{met_none, wall_room, met_next, met_all}
 use native.Mathlib.Omega.{arith}
 use Rattle.rule_machining.proofs.walls.put_thin_walls.Goals as goal
 

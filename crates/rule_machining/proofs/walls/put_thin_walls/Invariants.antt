@@ -1,8 +1,7 @@
 -- `rule_machining::walls::put_thin_walls` meets its contract: the faults of the walls that are passed are put.
 use Prim.Native.Nat.{◌+◌, ◌-◌, ◌≤◌}
 use Rattle.file_part.specs.Part.{part_of}
-use Rattle.rule_machining.proofs.WallLaws.{WallsMet, met_none, wall_room, met_next, met_all}
-use native.Mathlib.Omega.{arith}
+use Rattle.rule_machining.proofs.WallLaws.{WallsMet}
 use Rattle.rule_machining.proofs.walls.put_thin_walls.Given as goal
 
 abbrev pub invariant-loop-i : goal.invariant-loop-i

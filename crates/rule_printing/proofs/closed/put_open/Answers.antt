@@ -1,5 +1,4 @@
 -- `rule_printing::closed::put_open` meets its contract: one row where some key is open.
-use borrow.Author.Rules.{rules}
 use Rattle.rule_printing.proofs.ClosedLaws.{open_none, open_one}
 use Rattle.rule_printing.proofs.closed.put_open.Goals as goal
 

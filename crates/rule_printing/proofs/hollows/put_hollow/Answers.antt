@@ -1,5 +1,4 @@
 -- `rule_printing::hollows::put_hollow` meets its contract: a row where the volume is negative.
-use borrow.Author.Rules.{rules}
 use Rattle.rule_printing.proofs.HollowLaws.{hollow_none, hollow_sls, hollow_sla}
 use mathlib.Core.Path.{ap}
 use mathlib.Core.Bool.{not}

@@ -1,5 +1,4 @@
 -- `rule_printing::overhang::lean_of` meets its contract: the numbers of the definition.
-use borrow.Author.Rules.{rules}
 use Rattle.rule_printing.proofs.OverhangLaws.{lean_is}
 use Rattle.rule_printing.proofs.overhang.lean_of.Goals as goal
 

@@ -1,5 +1,4 @@
 -- `rule_printing::overhang::put_overhang` meets its contract: one row where some face hangs over.
-use borrow.Author.Rules.{rules}
 use Rattle.rule_printing.proofs.OverhangLaws.{overhang_none, overhang_one}
 use Rattle.rule_printing.proofs.overhang.put_overhang.Goals as goal
 

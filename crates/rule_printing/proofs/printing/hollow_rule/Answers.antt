@@ -1,5 +1,4 @@
 -- `rule_printing::printing::hollow_rule` meets its contract: by the process.
-use borrow.Author.Rules.{rules}
 use Rattle.file_part.specs.Part.{part_of}
 use Rattle.rule_printing.proofs.RuleLaws.{traps_is, hollows_quiet, hollows_found}
 use native.Mathlib.Omega.{arith}

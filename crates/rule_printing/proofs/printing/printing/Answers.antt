@@ -1,5 +1,4 @@
 -- `rule_printing::printing::printing` meets its contract: one rule after the other.
-use borrow.Author.Rules.{rules}
 use Rattle.rule_printing.proofs.RuleLaws.{words_all, reals_all, cells_all, numbers_all, printing_put}
 use native.Mathlib.Omega.{arith}
 use Rattle.rule_printing.proofs.printing.printing.Goals as goal

@@ -1,5 +1,4 @@
 -- `rule_printing::printing::upright_of` meets its contract: by the definition.
-use borrow.Author.Rules.{rules}
 use Rattle.rule_printing.proofs.RuleLaws.{upright_is}
 use Rattle.rule_printing.proofs.printing.upright_of.Goals as goal
 

@@ -1,5 +1,4 @@
 -- `rule_printing::small_holes::put_small_hole` meets its contract: a row where the test of dfm.rs is met.
-use borrow.Author.Rules.{rules}
 use Rattle.measure_sizes.specs.Round.{diameter_of}
 use Rattle.rule_printing.proofs.HoleLaws.{hole_one, hole_none}
 use Rattle.rule_printing.proofs.small_holes.put_small_hole.Goals as goal

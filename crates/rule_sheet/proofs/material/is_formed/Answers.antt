@@ -1,5 +1,4 @@
 -- `rule_sheet::material::is_formed` meets its contract.
-use borrow.Author.Rules.{rules}
 use borrow.Author.Tests.{not-true, not-false}
 use Rattle.rule_sheet.proofs.MaterialLaws.{formed_none, formed_some}
 use Rattle.rule_sheet.proofs.material.is_formed.Goals as goal

@@ -1,5 +1,4 @@
 -- `rule_sheet::material::put_material` meets its contract: a case for each.
-use borrow.Author.Rules.{rules}
 use mathlib.Core.Path.{sym, ◌∙◌}
 use borrow.Author.Tests.{not-true, not-false}
 use Rattle.rule_sheet.proofs.MaterialLaws.{material_none, no_material_put, material_put}

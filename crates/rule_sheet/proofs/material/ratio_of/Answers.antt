@@ -1,5 +1,4 @@
 -- `rule_sheet::material::ratio_of` meets its contract: one division.
-use borrow.Author.Rules.{rules}
 use Rattle.rule_sheet.proofs.MaterialLaws.{ratio_none, ratio_some}
 use Rattle.rule_sheet.proofs.material.ratio_of.Goals as goal
 

@@ -1,5 +1,4 @@
 -- `rule_sheet::sheet::put_uneven` meets its contract: one row.
-use borrow.Author.Rules.{rules}
 use Rattle.rule_sheet.proofs.SheetLaws.{uneven_put}
 use Rattle.rule_sheet.proofs.sheet.put_uneven.Goals as goal
 

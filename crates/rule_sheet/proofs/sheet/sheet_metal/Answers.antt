@@ -1,7 +1,5 @@
 -- `rule_sheet::sheet::sheet_metal` meets its contract: the material, then the rest.
-use borrow.Author.Rules.{rules}
 use mathlib.Core.Path.{sym, ◌∙◌}
-use borrow.Author.Tests.{not-true, not-false}
 use Rattle.rule_sheet.proofs.SheetLaws.{words_ranked, reals_ranked, said, metal_refused, words_metal, reals_metal, cells_metal, numbers_metal, metal_formed}
 use native.Mathlib.Omega.{arith}
 use Rattle.rule_sheet.proofs.sheet.sheet_metal.Goals as goal

@@ -1,5 +1,4 @@
 -- `rule_sheet::tight::put_tight_bend` meets its contract: a row where the test of dfm.rs is met.
-use borrow.Author.Rules.{rules}
 use Rattle.rule_sheet.proofs.TightLaws.{tight_one, tight_none}
 use Rattle.rule_sheet.proofs.tight.put_tight_bend.Goals as goal
 

@@ -1,5 +1,4 @@
 -- `scratch::body::put_body` meets its contract.
-use borrow.Author.Rules.{rules}
 use lib.Ieee.{nan}
 use Rattle.list_laws.proofs.Outside.{outside_then, outside_wide}
 use Rattle.scratch.proofs.TreeLaws.{standing_put}

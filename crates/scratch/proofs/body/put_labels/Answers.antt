@@ -1,5 +1,4 @@
 -- `scratch::body::put_labels` meets its contract.
-use borrow.Author.Rules.{rules}
 use mathlib.Core.Path.{◌∙◌}
 use Prim.Native.Nat.{◌-◌}
 use lib.Seq.{length-take-le}

@@ -1,5 +1,4 @@
 -- `scratch::body::put_sides` meets its contract.
-use borrow.Author.Rules.{rules}
 use mathlib.Core.Path.{◌∙◌}
 use Rattle.list_laws.proofs.Regions.{part_length}
 use Rattle.solid_faces.proofs.BodyLaws.{checked_readable}

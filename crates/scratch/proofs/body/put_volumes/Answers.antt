@@ -1,5 +1,4 @@
 -- `scratch::body::put_volumes` meets its contract.
-use borrow.Author.Rules.{rules}
 use mathlib.Core.Path.{◌∙◌}
 use borrow.Author.Tests.{not-false}
 use Rattle.list_laws.proofs.Regions.{part_length}

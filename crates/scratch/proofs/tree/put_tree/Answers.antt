@@ -1,5 +1,4 @@
 -- `scratch::tree::put_tree` meets its contract.
-use borrow.Author.Rules.{rules}
 use mathlib.Core.Path.{◌∙◌}
 use Rattle.list_laws.proofs.Regions.{part_length}
 use Rattle.scratch.proofs.TreeLaws.{tree_none, tree_put}

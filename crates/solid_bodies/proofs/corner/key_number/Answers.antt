@@ -3,7 +3,6 @@ use mathlib.Core.Path.{ap, ◌∙◌}
 use Prim.Native.Nat.{◌≤◌}
 use lib.IntN.{nat_abs}
 use lib.Dec.{lit<}
-use borrow.Author.Rules.{rules}
 use Rattle.solid_segments.specs.Key.{body_scale, key_part}
 use Rattle.solid_segments.specs.Work.{from_zero_of, key_cell}
 use Rattle.solid_segments.proofs.KeyLaws.{body_key, rounded_small, sum_fits, cast_fits, cast_is}

@@ -1,8 +1,6 @@
 -- `solid_bodies::corner::put_key` meets its contract.
 use Prim.Native.Nat.{◌<◌}
 use native.Mathlib.Omega.{arith}
-use lib.ListN.{length-set}
-use borrow.Author.Rules.{rules}
 use Rattle.math.specs.Size.{VecWithin}
 use Rattle.file_part.specs.Layout.{vertex_count_of}
 use Rattle.file_ok.proofs.ReadableLaws.{readable_vertex, readable_vertex_room}
@@ -25,18 +23,9 @@ pub key_number-requires-2 : goal.key_number-requires-2
 key_number-requires-2 c =
     let near : VecWithin c.corner-at.result 10000 = read_within c.args.file.now c.args.n c.args.v c.corner-at.result c.requires.fact_1 c.requires.fact_2 c.requires.fact_4 c.corner-at.ensures in near.y_within
 
-pub bounds-corners-k-2 : goal.bounds-corners-k-2
-bounds-corners-k-2 c = simp length-set (omega arith)
-
 pub key_number-requires-3 : goal.key_number-requires-3
 key_number-requires-3 c =
     let near : VecWithin c.corner-at.result 10000 = read_within c.args.file.now c.args.n c.args.v c.corner-at.result c.requires.fact_1 c.requires.fact_2 c.requires.fact_4 c.corner-at.ensures in near.z_within
-
-pub bounds-corners-k-3 : goal.bounds-corners-k-3
-bounds-corners-k-3 c = simp length-set (omega arith)
-
-pub shape_of-corners : goal.shape_of-corners
-shape_of-corners c = simp length-set
 
 pub returns : goal.returns
 returns c =

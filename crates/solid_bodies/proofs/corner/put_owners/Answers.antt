@@ -1,16 +1,11 @@
 -- `solid_bodies::corner::put_owners` meets its contract.
-use Prim.Native.Nat.{◌+◌, ◌-◌, ◌≤◌, ◌<◌}
+use Prim.Native.Nat.{◌+◌, ◌≤◌, ◌<◌}
 use native.Mathlib.Omega.{arith}
-use native.Mathlib.Nat.{le_antisymm}
-use mathlib.Core.Path.{◌≡◌, refl, ◌∙◌}
+use mathlib.Core.Path.{◌∙◌}
 use lib.ListN.{length}
-use borrow.Rule.Slice.PartMut.{same_len_mid}
-use Rattle.file_part.specs.Layout.{vertex_count_of, polygon_count_of}
-use Rattle.file_part.specs.Part.{part_of}
-use Rattle.file_ok.specs.Rules.{run_start}
+use Rattle.file_part.specs.Layout.{polygon_count_of}
 use Rattle.file_ok.proofs.PolygonLaws.{start_none}
 use Rattle.file_ok.proofs.ReadableLaws.{readable_length, readable_counts}
-use Rattle.solid_bodies.specs.Work.{Owned}
 use Rattle.solid_bodies.proofs.CornerLaws.{run_end, owned_none, owned_more, owned_all}
 use Rattle.solid_bodies.proofs.corner.put_owners.Goals as goal
 
@@ -20,7 +15,7 @@ polygon_count-polygons-requires c = omega (arith, readable_length _ c.requires.f
 pub loop-p-init : goal.loop-p-init
 loop-p-init c =
     let s = c.args in
-    (omega arith, refl, owned_none s.file.now s.corners.now _ (start_none _ _))
+    owned_none s.file.now s.corners.now _ (start_none _ _)
 
 pub entry_at-at-requires : goal.entry_at-at-requires
 entry_at-at-requires c =
@@ -45,7 +40,7 @@ overflow_add-end c =
     (omega (arith, counts.0, c.requires.fact_2), omega (arith, counts.1, known)) in
     let ends : c.first_vertex-first.result + c.run_length.result ≤ c.args.n = run_end c.args.file.now c.args.n c.loop-p.p c.entry_at-at.result c.first_vertex-first.result c.run_length.result c.loop-p.corners
     c.requires.fact_1 c.requires.fact_2 known c.entry_at-at.ensures c.first_vertex-first.ensures c.run_length.ensures.fact_1
-    (c.loop-p.invariant.1 ∙ c.requires.fact_3) in omega (arith, ends, few.0)
+    (c.loop-p.auto.corners ∙ c.requires.fact_3) in omega (arith, ends, few.0)
 
 pub offset_bounds-corners-first : goal.offset_bounds-corners-first
 offset_bounds-corners-first c =
@@ -54,21 +49,15 @@ offset_bounds-corners-first c =
     (omega (arith, counts.0, c.requires.fact_2), omega (arith, counts.1, known)) in
     let ends : c.first_vertex-first.result + c.run_length.result ≤ c.args.n = run_end c.args.file.now c.args.n c.loop-p.p c.entry_at-at.result c.first_vertex-first.result c.run_length.result c.loop-p.corners
     c.requires.fact_1 c.requires.fact_2 known c.entry_at-at.ensures c.first_vertex-first.ensures c.run_length.ensures.fact_1
-    (c.loop-p.invariant.1 ∙ c.requires.fact_3) in omega (arith, ends, few.0)
+    (c.loop-p.auto.corners ∙ c.requires.fact_3) in omega (arith, ends, few.0)
 
-pub slice_bounds-fill_words-count : goal.slice_bounds-fill_words-count
-slice_bounds-fill_words-count c = omega arith
-
-pub slice_bounds-fill_words-start : goal.slice_bounds-fill_words-start
-slice_bounds-fill_words-start c = omega arith
-
-pub slice_bounds-fill_words-end : goal.slice_bounds-fill_words-end
-slice_bounds-fill_words-end c =
+pub slice_bounds-fill-end : goal.slice_bounds-fill-end
+slice_bounds-fill-end c =
     let known : c.loop-p.p < polygon_count_of c.args.file.now = omega (arith, c.loop-p-test.true, c.polygon_count-polygons.ensures) in
     let ends : c.first_vertex-first.result + c.run_length.result ≤ c.args.n = run_end c.args.file.now c.args.n c.loop-p.p c.entry_at-at.result c.first_vertex-first.result c.run_length.result c.loop-p.corners
     c.requires.fact_1 c.requires.fact_2 known c.entry_at-at.ensures c.first_vertex-first.ensures c.run_length.ensures.fact_1
-    (c.loop-p.invariant.1 ∙ c.requires.fact_3) in
-    omega (arith, ends, c.loop-p.invariant.1, c.requires.fact_3)
+    (c.loop-p.auto.corners ∙ c.requires.fact_3) in
+    omega (arith, ends, c.loop-p.auto.corners, c.requires.fact_3)
 
 pub overflow_cast-p : goal.overflow_cast-p
 overflow_cast-p c =
@@ -76,32 +65,14 @@ overflow_cast-p c =
     let few : (c.args.n ≤ 16384) × (c.loop-p.p ≤ 4096) = let counts = readable_counts _ c.requires.fact_1 in
     (omega (arith, counts.0, c.requires.fact_2), omega (arith, counts.1, known)) in omega (arith, few.1)
 
-pub fill_words-requires : goal.fill_words-requires
-fill_words-requires c = tt
-
-pub overflow_add-p : goal.overflow_add-p
-overflow_add-p c =
-    let known : c.loop-p.p < polygon_count_of c.args.file.now = omega (arith, c.loop-p-test.true, c.polygon_count-polygons.ensures) in
-    let few : (c.args.n ≤ 16384) × (c.loop-p.p ≤ 4096) = let counts = readable_counts _ c.requires.fact_1 in
-    (omega (arith, counts.0, c.requires.fact_2), omega (arith, counts.1, known)) in omega (arith, few.1)
-
-pub loop-p-smaller : goal.loop-p-smaller
-loop-p-smaller c = omega (arith, c.loop-p-test.true)
-
 pub loop-p-preserved : goal.loop-p-preserved
 loop-p-preserved c =
-    let known : c.loop-p.p < polygon_count_of c.args.file.now = omega (arith, c.loop-p-test.true, c.polygon_count-polygons.ensures) in (
-      omega (arith, c.loop-p-test.true),
-      same_len_mid c.first_vertex-first.result (c.first_vertex-first.result + c.run_length.result - c.first_vertex-first.result) c.loop-p.corners c.fill_words.new.cells c.fill_words.auto.cells ∙ c.loop-p.invariant.1,
-      owned_more c.args.file.now c.args.n c.loop-p.p c.entry_at-at.result c.first_vertex-first.result c.run_length.result c.loop-p.corners
-          c.requires.fact_1 c.requires.fact_2 known c.entry_at-at.ensures c.first_vertex-first.ensures c.run_length.ensures.fact_1 (c.loop-p.invariant.1 ∙ c.requires.fact_3)
-          c.fill_words.new.cells c.fill_words.ensures c.loop-p.invariant.2,
-    )
-
-pub shape_of-corners : goal.shape_of-corners
-shape_of-corners c = c.loop-p.invariant.1
+    let known : c.loop-p.p < polygon_count_of c.args.file.now = omega (arith, c.loop-p-test.true, c.polygon_count-polygons.ensures) in
+    owned_more c.args.file.now c.args.n c.loop-p.p c.entry_at-at.result c.first_vertex-first.result c.run_length.result c.loop-p.corners
+    c.requires.fact_1 c.requires.fact_2 known c.entry_at-at.ensures c.first_vertex-first.ensures c.run_length.ensures.fact_1 (c.loop-p.auto.corners ∙ c.requires.fact_3)
+    c.fill.new.cells c.fill.ensures c.loop-p.invariant
 
 pub returns : goal.returns
 returns c =
     owned_all c.args.file.now c.loop-p.corners c.args.n c.loop-p.p c.requires.fact_1 c.requires.fact_2
-    (le_antisymm c.loop-p.invariant.0 c.loop-p-test.false ∙ c.polygon_count-polygons.ensures) c.loop-p.invariant.2
+    (omega arith) c.loop-p.invariant

@@ -1,11 +1,8 @@
 -- `solid_bodies::forest::root` meets its contract: the walk falls.
-use Prim.Native.Nat.{◌≤◌, ◌<◌}
-use native.Mathlib.Omega.{arith}
-use mathlib.Core.Path.{◌≡◌, sym, ◌∙◌}
-use lib.ListN.{length, get_or, length-set}
-use borrow.Author.Rules.{rules}
+use Prim.Native.Nat.{◌<◌}
+use mathlib.Core.Path.{◌≡◌}
+use lib.ListN.{length, get_or}
 use Rattle.solid_bodies.specs.Work.Forest.{Walked}
-use Rattle.solid_bodies.proofs.ForestLaws.{walk_start, walk_step, up_below, over_low}
 use Rattle.solid_bodies.proofs.forest.root.Given as goal
 
 abbrev pub invariant-loop-up : goal.invariant-loop-up

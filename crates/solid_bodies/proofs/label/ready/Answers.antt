@@ -1,21 +1,14 @@
 -- `solid_bodies::label::ready` meets its contract.
 use Prim.Native.Nat.{◌+◌, ◌*◌}
 use native.Mathlib.Omega.{arith}
-use mathlib.Core.Path.{◌≡◌, sym, ◌∙◌}
+use mathlib.Core.Path.{◌≡◌, ◌∙◌}
 use lib.ListN.{length, drop}
 use lib.Seq.{length-take-le}
 use mathlib.Core.List.{◌++◌}
 use Rattle.list_laws.specs.Region.{part}
 use Rattle.list_laws.proofs.Fill.{filled_at}
 use Rattle.solid_bodies.proofs.StepLaws.{step_ready, table_long}
-use borrow.Author.Rules.{rules}
 use Rattle.solid_bodies.proofs.label.ready.Goals as goal
-
-pub slice_bounds-start-end-2 : goal.slice_bounds-start-end-2
-slice_bounds-start-end-2 c = sym (length-take-le _ _ (omega arith))
-
-pub start-requires : goal.start-requires
-start-requires c = omega (arith, length-take-le c.args.p c.args.mem.now (omega arith))
 
 pub returns : goal.returns
 returns c =
@@ -25,5 +18,5 @@ returns c =
     let p-long : length c.start.new.parents ≡ p = c.start.auto.parents ∙ length-take-le p mem (omega (arith, c.requires.room)) in
     let before = part (p + 4 * n) (p + 4 * n + 2 * n) (c.start.new.parents ++ drop p mem) in
     let long = table_long p n mem c.start.new.parents c.requires.room p-long in
-    step_ready p n mem c.start.new.parents c.fill_words.new.cells c.requires.room p-long (c.fill_words.auto.cells ∙ long) c.start.ensures
-    (λ h l. filled_at c.fill_words.new.cells (length before) 0 0 c.fill_words.ensures h (omega (arith, long)))
+    step_ready p n mem c.start.new.parents c.fill.new.cells c.requires.room p-long (c.fill.auto.cells ∙ long) c.start.ensures
+    (λ h l. filled_at c.fill.new.cells (length before) 0 0 c.fill.ensures h (omega (arith, long)))

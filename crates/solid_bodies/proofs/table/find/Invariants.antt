@@ -1,10 +1,6 @@
 -- `solid_bodies::table::find` meets its contract: what the walk passes has another key, and the walk falls.
-use Prim.Native.Nat.{ℕ, ◌<◌}
-use native.Mathlib.Omega.{arith}
-use mathlib.Core.Path.{sym, subst}
-use borrow.Author.Rules.{rules}
-use Rattle.solid_bodies.specs.Work.{key_at, corners_of}
-use Rattle.solid_bodies.proofs.TableLaws.{Seek, key_same, key_other, slot_in, seek_begin, seek_turn, seek_falls, seek_hit, seek_end}
+use Rattle.solid_bodies.specs.Work.{corners_of}
+use Rattle.solid_bodies.proofs.TableLaws.{Seek}
 use Rattle.solid_bodies.proofs.table.find.Given as goal
 
 abbrev pub invariant-loop-at : goal.invariant-loop-at

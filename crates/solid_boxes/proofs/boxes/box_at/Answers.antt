@@ -1,5 +1,4 @@
 -- `solid_boxes::boxes::box_at` meets its contract.
-use borrow.Author.Rules.{rules}
 use mathlib.Core.Path.{refl}
 use Rattle.solid_boxes.specs.Tree.{box_at}
 use Rattle.solid_boxes.proofs.boxes.box_at.Goals as goal

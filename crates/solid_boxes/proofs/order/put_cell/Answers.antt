@@ -1,5 +1,4 @@
 -- `solid_boxes::order::put_cell` meets its contract.
-use borrow.Author.Rules.{rules}
 use mathlib.Core.Path.{refl}
 use lib.ListN.{length-set}
 use Rattle.solid_boxes.proofs.order.put_cell.Goals as goal

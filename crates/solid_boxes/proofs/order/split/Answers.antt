@@ -1,8 +1,7 @@
 -- `solid_boxes::order::split` meets its contract.
 use borrow.Author.Rules.{rules}
-use Prim.Native.Nat.{◌≤◌, ◌-◌}
 use native.Mathlib.Omega.{arith}
-use Rattle.solid_boxes.proofs.OrderLaws.{Splitting, splitting_none, splitting_more, splitting_done}
+use Rattle.solid_boxes.proofs.OrderLaws.{splitting_none, splitting_more, splitting_done}
 use Rattle.solid_boxes.proofs.order.split.Goals as goal
 
 pub cut_of-cut-requires : goal.cut_of-cut-requires

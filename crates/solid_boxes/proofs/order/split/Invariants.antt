@@ -1,8 +1,6 @@
 -- `solid_boxes::order::split` meets its contract.
-use borrow.Author.Rules.{rules}
 use Prim.Native.Nat.{◌≤◌, ◌-◌}
-use native.Mathlib.Omega.{arith}
-use Rattle.solid_boxes.proofs.OrderLaws.{Splitting, splitting_none, splitting_more, splitting_done}
+use Rattle.solid_boxes.proofs.OrderLaws.{Splitting}
 use Rattle.solid_boxes.proofs.order.split.Given as goal
 
 abbrev pub invariant-loop-l : goal.invariant-loop-l

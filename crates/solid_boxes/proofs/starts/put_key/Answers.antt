@@ -1,5 +1,4 @@
 -- `solid_boxes::starts::put_key` meets its contract.
-use borrow.Author.Rules.{rules}
 use lib.ListN.{length-set}
 use Rattle.solid_boxes.proofs.starts.put_key.Goals as goal
 

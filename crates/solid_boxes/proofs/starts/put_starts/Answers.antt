@@ -1,11 +1,8 @@
 -- `solid_boxes::starts::put_starts` meets its contract.
 use borrow.Author.Rules.{rules}
-use mathlib.Core.Path.{◌≡◌, ◌∙◌}
-use Prim.Native.Nat.{◌-◌, ◌*◌}
+use mathlib.Core.Path.{◌∙◌}
 use native.Mathlib.Omega.{arith}
-use lib.ListN.{length}
-use Rattle.solid_boxes.specs.Tree.{Order, start_at, skip_at}
-use Rattle.solid_boxes.proofs.StartLaws.{State, room, top_is, begun, leaf_step, split_step, finished}
+use Rattle.solid_boxes.proofs.StartLaws.{room, top_is, begun, leaf_step, split_step, finished}
 use Rattle.solid_boxes.proofs.starts.put_starts.Goals as goal
 
 pub overflow_mul-ends : goal.overflow_mul-ends

@@ -1,11 +1,9 @@
 -- `solid_boxes::starts::put_starts` meets its contract.
-use borrow.Author.Rules.{rules}
-use mathlib.Core.Path.{◌≡◌, ◌∙◌}
+use mathlib.Core.Path.{◌≡◌}
 use Prim.Native.Nat.{◌-◌, ◌*◌}
-use native.Mathlib.Omega.{arith}
 use lib.ListN.{length}
 use Rattle.solid_boxes.specs.Tree.{Order, start_at, skip_at}
-use Rattle.solid_boxes.proofs.StartLaws.{State, room, top_is, begun, leaf_step, split_step, finished}
+use Rattle.solid_boxes.proofs.StartLaws.{State}
 use Rattle.solid_boxes.proofs.starts.put_starts.Given as goal
 
 abbrev pub invariant-loop-d : goal.invariant-loop-d

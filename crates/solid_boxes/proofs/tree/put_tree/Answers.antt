@@ -1,5 +1,4 @@
 -- `solid_boxes::tree::put_tree` meets its contract.
-use borrow.Author.Rules.{rules}
 use mathlib.Core.Path.{sym, ◌∙◌}
 use native.Mathlib.Omega.{arith}
 use Rattle.file_part.proofs.PartLaws.{part_polygons}

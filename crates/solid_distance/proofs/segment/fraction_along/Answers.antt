@@ -1,5 +1,4 @@
 -- `solid_distance::segment::fraction_along` meets its contract.
-use borrow.Author.Rules.{rules}
 use Rattle.solid_distance.proofs.SegmentLaws.{along_short, along_long}
 use Rattle.solid_distance.proofs.segment.fraction_along.Goals as goal
 

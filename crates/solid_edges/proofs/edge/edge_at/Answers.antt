@@ -2,15 +2,8 @@
 use native.Mathlib.Omega.{arith}
 use Rattle.solid_edges.proofs.ScanLaws.{few_vertices}
 use Rattle.solid_ids.proofs.KnownLaws.{trailer}
-use Rattle.solid_edges.proofs.EdgeLaws.{edge_low, edge_many, edge_two}
+use Rattle.solid_edges.proofs.EdgeLaws.{edge_low, edge_many, edge_inside, edge_two}
 use Rattle.solid_edges.proofs.edge.edge_at.Goals as goal
-
-pub pair_at-pair-requires : goal.pair_at-pair-requires
-pair_at-pair-requires c =
-    record {
-      fact_1 = c.requires.fact_1;
-      fact_2 = c.requires.fact_2;
-    }
 
 pub overflow_add-s : goal.overflow_add-s
 overflow_add-s c = omega (arith, few_vertices c.requires.fact_1, c.requires.fact_2)
@@ -24,24 +17,12 @@ vertex_count-requires c = trailer c.requires.fact_1.faced
 pub returns-then-vertex_count-pair : goal.returns-then-vertex_count-pair
 returns-then-vertex_count-pair c = edge_many _ _ _ _ c.vertex_count.ensures c.pair_at-pair.ensures c.if-vertex_count-pair.true
 
-pub face_at-near-requires : goal.face_at-near-requires
-face_at-near-requires c =
-    record {
-      fact_1 = c.requires.fact_1;
-      fact_2 = c.requires.fact_2;
-    }
-
-pub overflow_sub-pair : goal.overflow_sub-pair
-overflow_sub-pair c = omega (arith, c.if-pair-s.false)
-
-pub face_at-beyond-requires : goal.face_at-beyond-requires
-face_at-beyond-requires c =
-    record {
-      fact_1 = c.requires.fact_1;
-      fact_2 = omega (arith, c.if-pair-s.false, c.vertex_count.ensures, c.if-vertex_count-pair.false);
-    }
+pub returns-then-near-beyond : goal.returns-then-near-beyond
+returns-then-near-beyond c =
+    edge_inside _ _ _ _ _ _ c.vertex_count.ensures c.pair_at-pair.ensures c.if-pair-s.false c.if-vertex_count-pair.false
+    c.face_at-near.ensures c.face_at-beyond.ensures c.if-near-beyond.true
 
 pub returns : goal.returns
 returns c =
     edge_two _ _ _ _ _ _ c.vertex_count.ensures c.pair_at-pair.ensures c.if-pair-s.false c.if-vertex_count-pair.false
-    c.face_at-near.ensures c.face_at-beyond.ensures
+    c.face_at-near.ensures c.face_at-beyond.ensures c.if-near-beyond.false

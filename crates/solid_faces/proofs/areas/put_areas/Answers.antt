@@ -1,15 +1,11 @@
 -- `solid_faces::areas::put_areas` meets its contract.
-use borrow.Author.Rules.{rules}
-use mathlib.Core.Path.{◌≡◌, refl}
-use Prim.Native.Nat.{◌-◌, ◌≤◌, ◌<◌}
+use Prim.Native.Nat.{◌<◌}
 use native.Mathlib.Omega.{arith}
-use lib.ListN.{length, length-set}
-use Rattle.solid_polygon.specs.file_part.specs.Part.{part_of}
+use lib.ListN.{length}
 use Rattle.file_ok.specs.Work.{Readable}
 use Rattle.solid_polygon.specs.Work.{Corners}
-use Rattle.solid_faces.specs.Kept.{KeptAreas}
 use Rattle.solid_faces.proofs.BodyLaws.{readable_long, EntryRoom, entry_room, RunRoom, run_room, run_corners, run_area, checked_readable}
-use Rattle.solid_faces.proofs.KeptLaws.{areas_none, areas_more, areas_all}
+use Rattle.solid_faces.proofs.KeptLaws.{areas_more}
 use Rattle.solid_faces.proofs.areas.put_areas.Goals as goal
 
 pub vertex_count-vertices-requires : goal.vertex_count-vertices-requires
@@ -17,9 +13,6 @@ vertex_count-vertices-requires c = readable_long _ (checked_readable _ c.require
 
 pub polygon_count-polygons-requires : goal.polygon_count-polygons-requires
 polygon_count-polygons-requires c = readable_long _ (checked_readable _ c.requires.fact_1)
-
-pub loop-p-init : goal.loop-p-init
-loop-p-init c = (omega arith, refl, areas_none _ _)
 
 pub entry_at-entry-requires : goal.entry_at-entry-requires
 entry_at-entry-requires c =
@@ -49,28 +42,10 @@ poly_area-requires c =
       fact_2 = run.least;
     }
 
-pub offset_bounds-areas-p : goal.offset_bounds-areas-p
-offset_bounds-areas-p c =
-    let room : c.loop-p.p < length c.loop-p.areas = omega (arith, c.loop-p-test.true, c.polygon_count-polygons.ensures, c.requires.fact_2, c.loop-p.invariant.1) in omega (arith, room)
-
-pub bounds-areas-p : goal.bounds-areas-p
-bounds-areas-p c =
-    let room : c.loop-p.p < length c.loop-p.areas = omega (arith, c.loop-p-test.true, c.polygon_count-polygons.ensures, c.requires.fact_2, c.loop-p.invariant.1) in room
-
 pub loop-p-preserved : goal.loop-p-preserved
 loop-p-preserved c =
-    let room : c.loop-p.p < length c.loop-p.areas = omega (arith, c.loop-p-test.true, c.polygon_count-polygons.ensures, c.requires.fact_2, c.loop-p.invariant.1) in
+    let room : c.loop-p.p < length c.loop-p.areas = omega (arith, c.loop-p-test.true, c.polygon_count-polygons.ensures, c.requires.fact_2, c.loop-p.auto.areas) in
     let area
     = run_area _ _ _ _ _ _ _ c.vertex_count-vertices.ensures c.entry_at-entry.ensures
     c.first_vertex.ensures c.run_length.ensures.fact_1 c.poly_area.ensures in
-    (omega (arith, c.loop-p-test.true), simp length-set c.loop-p.invariant.1, areas_more _ _ _ _ room area c.loop-p.invariant.2)
-
-pub shape_of-areas : goal.shape_of-areas
-shape_of-areas c = c.loop-p.invariant.1
-
-pub returns : goal.returns
-returns c =
-    record {
-      kept_areas = areas_all _ _ _ _ (omega (arith, c.polygon_count-polygons.ensures, c.loop-p.invariant.0)) (omega (arith, c.polygon_count-polygons.ensures, c.loop-p-test.false)) c.loop-p.invariant.2;
-      areas_len_unchanged = c.loop-p.invariant.1;
-    }
+    areas_more _ _ _ _ room area c.loop-p.invariant

@@ -1,13 +1,11 @@
 -- `solid_faces::verdict::any_flat` meets its contract.
-use borrow.Author.Rules.{rules}
 use mathlib.Core.Path.{◌≡◌}
-use Prim.Native.Nat.{◌-◌, ◌≤◌}
 use native.Mathlib.Omega.{arith}
 use Rattle.solid_polygon.specs.file_part.specs.Part.{part_of}
 use Rattle.file_ok.specs.Work.{Readable}
 use Rattle.solid_polygon.specs.Work.{Corners}
 use Rattle.solid_faces.specs.Faces.{polygon_flat}
-use Rattle.solid_faces.proofs.BodyLaws.{readable_long, EntryRoom, entry_room, RunRoom, run_room, run_corners, run_flat, polygons_are, NoneFlat, flat_none, flat_more, flat_found, flat_all}
+use Rattle.solid_faces.proofs.BodyLaws.{readable_long, EntryRoom, entry_room, RunRoom, run_room, run_corners, run_flat, polygons_are, flat_none, flat_more, flat_found, flat_all}
 use Rattle.solid_faces.proofs.verdict.any_flat.Goals as goal
 
 pub vertex_count-vertices-requires : goal.vertex_count-vertices-requires
@@ -17,7 +15,7 @@ pub polygon_count-polygons-requires : goal.polygon_count-polygons-requires
 polygon_count-polygons-requires c = readable_long _ c.requires
 
 pub loop-p-init : goal.loop-p-init
-loop-p-init c = (omega arith, flat_none _)
+loop-p-init c = flat_none _
 
 pub entry_at-at-requires : goal.entry_at-at-requires
 entry_at-at-requires c =
@@ -57,8 +55,8 @@ pub loop-p-preserved : goal.loop-p-preserved
 loop-p-preserved c =
     let flat : c.is_flat.result ≡ polygon_flat (part_of c.args.file.now) c.loop-p.p = run_flat _ _ _ _ _ _ _ c.vertex_count-vertices.ensures c.entry_at-at.ensures
     c.first_vertex.ensures c.run_length.ensures.fact_1 c.is_flat.ensures in
-    (omega (arith, c.loop-p-test.true), flat_more _ _ _ flat c.if-is_flat.false c.loop-p.invariant.1)
+    flat_more _ _ _ flat c.if-is_flat.false c.loop-p.invariant
 
 pub returns : goal.returns
 returns c =
-    flat_all _ _ _ (polygons_are _ _ c.polygon_count-polygons.ensures) c.loop-p.invariant.0 c.loop-p-test.false c.loop-p.invariant.1
+    flat_all _ _ _ (polygons_are _ _ c.polygon_count-polygons.ensures) c.loop-p.auto.p-end c.loop-p-test.false c.loop-p.invariant

@@ -1,21 +1,16 @@
 -- `solid_keys::chains::link` meets its contract.
-use mathlib.Core.Path.{◌≡◌, refl}
-use Prim.Native.Nat.{◌-◌, ◌≤◌}
-use native.Mathlib.Omega.{arith}
-use lib.ListN.{length, length-set}
-use borrow.Author.Rules.{rules}
 use Rattle.solid_keys.specs.Work.{Sides}
 use Rattle.solid_keys.proofs.ColumnLaws.{sides_kept}
-use Rattle.solid_keys.proofs.ChainLaws.{Linked, Slotted, linked_start, linked_more, linked_all, next_now, from_now}
+use Rattle.solid_keys.proofs.ChainLaws.{Slotted, linked_start, linked_more, next_now, from_now}
 use Rattle.solid_keys.proofs.chains.link.Goals as goal
 
 pub loop-s-init : goal.loop-s-init
 loop-s-init c =
-    (omega arith, refl, linked_start c.args.mem.now c.args.n c.requires.fact_2)
+    linked_start c.args.mem.now c.args.n c.requires.fact_2
 
 pub slot_of-h-requires : goal.slot_of-h-requires
 slot_of-h-requires c =
-    let sides : Sides c.loop-s.mem c.args.n = sides_kept c.args.mem.now c.loop-s.mem c.loop-s.invariant.2.kept c.args.n c.requires.fact_1 c.loop-s.invariant.1 in
+    let sides : Sides c.loop-s.mem c.args.n = sides_kept c.args.mem.now c.loop-s.mem c.loop-s.invariant.kept c.args.n c.requires.fact_1 c.loop-s.auto.mem in
     record {
       fact_1 = sides;
       fact_2 = c.loop-s-test.true;
@@ -23,10 +18,10 @@ slot_of-h-requires c =
 
 pub find-p-requires : goal.find-p-requires
 find-p-requires c =
-    let sides : Sides c.loop-s.mem c.args.n = sides_kept c.args.mem.now c.loop-s.mem c.loop-s.invariant.2.kept c.args.n c.requires.fact_1 c.loop-s.invariant.1 in
+    let sides : Sides c.loop-s.mem c.args.n = sides_kept c.args.mem.now c.loop-s.mem c.loop-s.invariant.kept c.args.n c.requires.fact_1 c.loop-s.auto.mem in
     let slotted : Slotted c.args.mem.now c.loop-s.mem c.args.n
     c.loop-s.s c.slot_of-h.result = record {
-      linked = c.loop-s.invariant.2;
+      linked = c.loop-s.invariant;
       room = sides.room;
       inside = c.loop-s-test.true;
       slot_inside = c.slot_of-h.ensures.1;
@@ -39,53 +34,15 @@ find-p-requires c =
       from_value = from_now slotted;
     }
 
-pub bounds-mem-s-in-loop-s : goal.bounds-mem-s-in-loop-s
-bounds-mem-s-in-loop-s c =
-    let sides : Sides c.loop-s.mem c.args.n = sides_kept c.args.mem.now c.loop-s.mem c.loop-s.invariant.2.kept c.args.n c.requires.fact_1 c.loop-s.invariant.1 in
-    let slotted : Slotted c.args.mem.now c.loop-s.mem c.args.n
-    c.loop-s.s c.slot_of-h.result = record {
-      linked = c.loop-s.invariant.2;
-      room = sides.room;
-      inside = c.loop-s-test.true;
-      slot_inside = c.slot_of-h.ensures.1;
-      slot_is = c.slot_of-h.ensures.0;
-    } in
-    let at = slotted in
-    simp length-set (omega (arith, at.room, at.inside, at.slot_inside))
-
-pub bounds-mem-h-in-loop-s : goal.bounds-mem-h-in-loop-s
-bounds-mem-h-in-loop-s c =
-    let sides : Sides c.loop-s.mem c.args.n = sides_kept c.args.mem.now c.loop-s.mem c.loop-s.invariant.2.kept c.args.n c.requires.fact_1 c.loop-s.invariant.1 in
-    let slotted : Slotted c.args.mem.now c.loop-s.mem c.args.n
-    c.loop-s.s c.slot_of-h.result = record {
-      linked = c.loop-s.invariant.2;
-      room = sides.room;
-      inside = c.loop-s-test.true;
-      slot_inside = c.slot_of-h.ensures.1;
-      slot_is = c.slot_of-h.ensures.0;
-    } in
-    let at = slotted in
-    simp length-set (omega (arith, at.room, at.inside, at.slot_inside))
-
 pub loop-s-preserved : goal.loop-s-preserved
 loop-s-preserved c =
-    let sides : Sides c.loop-s.mem c.args.n = sides_kept c.args.mem.now c.loop-s.mem c.loop-s.invariant.2.kept c.args.n c.requires.fact_1 c.loop-s.invariant.1 in
+    let sides : Sides c.loop-s.mem c.args.n = sides_kept c.args.mem.now c.loop-s.mem c.loop-s.invariant.kept c.args.n c.requires.fact_1 c.loop-s.auto.mem in
     let slotted : Slotted c.args.mem.now c.loop-s.mem c.args.n
     c.loop-s.s c.slot_of-h.result = record {
-      linked = c.loop-s.invariant.2;
+      linked = c.loop-s.invariant;
       room = sides.room;
       inside = c.loop-s-test.true;
       slot_inside = c.slot_of-h.ensures.1;
       slot_is = c.slot_of-h.ensures.0;
     } in
-    (omega arith, simp length-set c.loop-s.invariant.1, linked_more slotted c.find-p.result c.find-p.ensures)
-
-pub shape_of-mem : goal.shape_of-mem
-shape_of-mem c = c.loop-s.invariant.1
-
-pub returns : goal.returns
-returns c =
-    record {
-      kept = c.loop-s.invariant.2.kept;
-      before = linked_all c.args.mem.now c.loop-s.mem c.args.n c.loop-s.s (omega arith) c.loop-s.invariant.2;
-    }
+    linked_more slotted c.find-p.result c.find-p.ensures

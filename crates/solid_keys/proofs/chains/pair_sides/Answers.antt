@@ -1,5 +1,4 @@
 -- `solid_keys::chains::pair_sides` meets its contract.
-use borrow.Author.Rules.{rules}
 use Rattle.solid_keys.specs.Work.{col, Sides}
 use Rattle.solid_keys.proofs.ColumnLaws.{sides_kept, before_cells, paired_cells}
 use Rattle.solid_keys.proofs.chains.pair_sides.Goals as goal

@@ -1,5 +1,4 @@
 -- `solid_polygon::polygon::is_flat` meets its contract.
-use borrow.Author.Rules.{rules}
 use Rattle.solid_polygon.specs.Plane.{is_flat}
 use Rattle.solid_polygon.proofs.CornerLaws.{not_flat}
 use Rattle.solid_polygon.proofs.polygon.is_flat.Goals as goal

@@ -1,5 +1,4 @@
 -- `solid_polygon::polygon::next` meets its contract.
-use borrow.Author.Rules.{rules}
 use native.Mathlib.Omega.{arith}
 use Rattle.solid_polygon.proofs.CornerLaws.{after_last, after_next}
 use Rattle.solid_polygon.proofs.polygon.next.Goals as goal

@@ -1,7 +1,6 @@
 -- `solid_segments::shared::shared_segments` meets its contract.
 use mathlib.Core.Path.{sym, ◌∙◌}
 use native.Mathlib.Omega.{arith}
-use borrow.Author.Rules.{rules}
 use Rattle.file_part.specs.Part.{part_of}
 use Rattle.file_part.proofs.PartLaws.{part_vertices}
 use Rattle.file_ok.proofs.ReadableLaws.{readable_length, readable_counts}
@@ -18,28 +17,11 @@ pub polygon_count-polygons-requires : goal.polygon_count-polygons-requires
 polygon_count-polygons-requires c =
     omega (arith, readable_length c.args.file.now c.requires.fact_1)
 
-pub put_sides-requires : goal.put_sides-requires
-put_sides-requires c =
-    let lent : Lent c.args.file.now c.args.mem.now c.vertex_count-vertices.result = lent_of c.requires.fact_1 c.requires.fact_2 c.vertex_count-vertices.ensures in
-    record {
-      fact_1 = lent;
-      fact_2 = c.polygon_count-polygons.ensures;
-    }
-
 pub pair_sides-requires : goal.pair_sides-requires
 pair_sides-requires c =
     let lent : Lent c.args.file.now c.args.mem.now c.vertex_count-vertices.result = lent_of c.requires.fact_1 c.requires.fact_2 c.vertex_count-vertices.ensures in
     let lent-after : Lent c.args.file.now c.put_sides.new.mem c.vertex_count-vertices.result = lent_still lent c.put_sides.auto.mem in
     placed_sides _ _ _ lent-after c.put_sides.ensures
-
-pub put_owners-requires : goal.put_owners-requires
-put_owners-requires c =
-    let lent : Lent c.args.file.now c.args.mem.now c.vertex_count-vertices.result = lent_of c.requires.fact_1 c.requires.fact_2 c.vertex_count-vertices.ensures in
-    let lent-after : Lent c.args.file.now c.put_sides.new.mem c.vertex_count-vertices.result = lent_still lent c.put_sides.auto.mem in
-    record {
-      fact_1 = lent_still lent-after c.pair_sides.auto.mem;
-      fact_2 = c.polygon_count-polygons.ensures;
-    }
 
 pub pack_sides-requires : goal.pack_sides-requires
 pack_sides-requires c =

@@ -1,5 +1,4 @@
 -- `solid_tours::boxes::is_spared` meets its contract.
-use borrow.Author.Rules.{rules}
 use Rattle.solid_tours.proofs.BoxLaws.{spared_in, spared_out}
 use Rattle.solid_tours.proofs.boxes.is_spared.Goals as goal
 

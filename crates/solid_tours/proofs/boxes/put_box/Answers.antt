@@ -1,5 +1,4 @@
 -- `solid_tours::boxes::put_box` meets its contract: one box more.
-use borrow.Author.Rules.{rules}
 use Rattle.solid_tours.proofs.PlaceLaws.{most}
 use Rattle.solid_tours.proofs.BoxLaws.{low_box, run_items, put_items, run_some, box_first, box_inside, box_one}
 use native.Mathlib.Omega.{arith}

@@ -1,5 +1,4 @@
 -- `solid_tours::order::order_edges` meets its contract: sorted, then packed, then boxes around them.
-use borrow.Author.Rules.{rules}
 use Rattle.solid_tours.proofs.PackLaws.{edges_put}
 use Rattle.solid_tours.proofs.order.order_edges.Goals as goal
 

@@ -1,42 +1,15 @@
 -- `solid_tours::order::put_edges` meets its contract: the edges of the sides passed are kept.
-use Prim.Native.Nat.{◌-◌, ◌≤◌}
 use lib.Ieee.{nan}
-use Rattle.list_laws.specs.Region.{Outside}
-use Rattle.list_laws.proofs.Outside.{outside_none, outside_then}
-use Rattle.file_part.specs.Part.{part_of}
-use Rattle.solid_tours.specs.Work.{EdgesTo}
-use Rattle.solid_tours.proofs.PutLaws.{edges_none, still_standing, still_ranked, all_put}
+use Rattle.list_laws.proofs.Outside.{outside_none}
+use Rattle.solid_tours.proofs.PutLaws.{edges_none, still_standing, all_put}
 use native.Mathlib.Omega.{arith}
 use Rattle.solid_tours.proofs.order.put_edges.Goals as goal
 
 pub loop-s-init : goal.loop-s-init
-loop-s-init c = (omega arith, edges_none _ _ _ _, outside_none 0 _ _ _, outside_none nan _ _ _)
+loop-s-init c = (edges_none _ _ _ _, outside_none 0 _ _ _, outside_none nan _ _ _)
 
-pub put_edge-m-requires : goal.put_edge-m-requires
-put_edge-m-requires c =
-    record {
-      standing_1 = still_standing _ _ _ _ _ _ _ c.requires.fact_1 (omega (arith, c.requires.fact_1.placed.laid)) c.loop-s.invariant.2 c.loop-s.invariant.3;
-      standing_2 = still_ranked _ _ _ _ _ _ _ c.requires.fact_1 (omega (arith, c.requires.fact_1.placed.laid)) c.loop-s.invariant.2 c.loop-s.invariant.3 c.requires.fact_2;
-      standing_3 = c.requires.fact_3;
-      side_lt_vertices_1 = c.loop-s-test.true;
-      side_lt_vertices_2 = c.loop-s.invariant.1.count;
-      side_lt_vertices_3 = c.requires.fact_4;
-    }
-
-pub overflow_add-s : goal.overflow_add-s
-overflow_add-s c = omega (arith, c.loop-s-test.true, c.requires.fact_1.placed.laid)
-
-pub loop-s-smaller : goal.loop-s-smaller
-loop-s-smaller c = omega (arith, c.loop-s-test.true)
-
-pub loop-s-preserved : goal.loop-s-preserved
-loop-s-preserved c = (omega (arith, c.loop-s-test.true), c.put_edge-m.ensures.more c.loop-s.invariant.1, outside_then 0 _ _ _ _ _ c.loop-s.invariant.2 c.put_edge-m.ensures.words_kept, outside_then nan _ _ _ _ _ c.loop-s.invariant.3 c.put_edge-m.ensures.reals_kept)
-
-pub shape_of-words : goal.shape_of-words
-shape_of-words c = c.loop-s.invariant.2.long
-
-pub shape_of-reals : goal.shape_of-reals
-shape_of-reals c = c.loop-s.invariant.3.long
+pub put_edge-m-requires-clause-standing_1 : goal.put_edge-m-requires-clause-standing_1
+put_edge-m-requires-clause-standing_1 c = still_standing _ _ _ _ _ _ _ c.requires.fact_1 (omega (arith, c.requires.fact_1.placed.laid)) c.loop-s.invariant.1 c.loop-s.invariant.2
 
 pub returns : goal.returns
-returns c = all_put _ _ _ _ _ _ _ _ c.requires.fact_1 c.loop-s.invariant.0 c.loop-s-test.false c.loop-s.invariant.1 c.loop-s.invariant.2 c.loop-s.invariant.3
+returns c = all_put _ _ _ _ _ _ _ _ c.requires.fact_1 (omega arith) c.loop-s-test.false c.loop-s.invariant.0 c.loop-s.invariant.1 c.loop-s.invariant.2

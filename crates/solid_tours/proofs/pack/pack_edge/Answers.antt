@@ -1,5 +1,4 @@
 -- `solid_tours::pack::pack_edge` meets its contract: one place more.
-use borrow.Author.Rules.{rules}
 use native.Mathlib.Omega.{arith}
 use Rattle.solid_edges.proofs.ScanLaws.{vertex_room}
 use Rattle.scratch.proofs.StandingLaws.{placed_vertices}

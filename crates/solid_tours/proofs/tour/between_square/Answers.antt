@@ -1,5 +1,4 @@
 -- `solid_tours::tour::between_square` meets its contract: over its places.
-use borrow.Author.Rules.{rules}
 use mathlib.Core.Path.{ap, ◌∙◌}
 use Rattle.solid_tours.specs.Work.{least_square}
 use native.Mathlib.Omega.{arith}

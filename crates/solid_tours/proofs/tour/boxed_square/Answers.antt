@@ -1,10 +1,5 @@
 -- `solid_tours::tour::boxed_square` meets its contract: the runs passed are no nearer.
-use borrow.Author.Rules.{rules}
-use mathlib.Core.Path.{◌≡◌}
-use Prim.Native.Nat.{◌-◌, ◌≤◌}
 use Rattle.file_part.specs.Part.{part_of}
-use Rattle.solid_tours.specs.Work.{least_square}
-use Rattle.solid_tours.specs.Work.Kept.{sides_at}
 use Rattle.solid_tours.proofs.PlaceLaws.{most}
 use Rattle.solid_tours.proofs.TourLaws.{order_long, least_start, least_join, least_stop}
 use Rattle.solid_tours.proofs.BoxLaws.{count_items, run_on, run_less}

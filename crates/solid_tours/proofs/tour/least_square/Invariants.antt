@@ -1,18 +1,9 @@
 -- `solid_tours::tour::least_square` meets its contract: the edges passed are no nearer.
-use borrow.Author.Rules.{rules}
 use mathlib.Core.Path.{◌≡◌}
-use Prim.Native.Nat.{◌-◌, ◌≤◌}
 use Rattle.file_part.specs.Part.{part_of}
 use Rattle.solid_tours.specs.Work.{least_square}
 use Rattle.solid_tours.specs.Work.Kept.{sides_at}
-use Rattle.solid_tours.proofs.PlaceLaws.{most}
-use Rattle.solid_tours.proofs.PackLaws.{packed_inside}
-use Rattle.solid_tours.proofs.TourLaws.{order_long, least_start, least_next, least_stop}
-use native.Mathlib.Omega.{arith}
 use Rattle.solid_tours.proofs.tour.least_square.Given as goal
 
 abbrev pub invariant-loop-j : goal.invariant-loop-j
-invariant-loop-j l = (l.initial.j ≤ l.j) × (l.j ≤ l.end) × (l.best ≡ least_square (part_of l.file) l.p l.least (sides_at (part_of l.file) l.at l.words l.initial.j l.j))
-
-abbrev pub decreases-loop-j : goal.decreases-loop-j
-decreases-loop-j l = l.end - l.j
+invariant-loop-j l = l.best ≡ least_square (part_of l.file) l.p l.least (sides_at (part_of l.file) l.at l.words l.fn.places.start l.j)

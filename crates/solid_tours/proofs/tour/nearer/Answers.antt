@@ -1,5 +1,4 @@
 -- `solid_tours::tour::nearer` meets its contract.
-use borrow.Author.Rules.{rules}
 use Rattle.solid_tours.proofs.PackLaws.{lesser_new, lesser_old}
 use Rattle.solid_tours.proofs.tour.nearer.Goals as goal
 

@@ -1,11 +1,8 @@
 -- `solid_tours::tour::rank_start` meets its contract: the place is between the two ends.
 use Prim.Native.Nat.{◌*◌, ◌-◌, ◌≤◌}
-use native.Mathlib.Nat.{le_antisymm}
 use Rattle.file_part.specs.Part.{part_of}
 use Rattle.solid_faces.specs.Faces.{faces_of}
 use Rattle.solid_tours.specs.Work.Kept.{item_count, key_start}
-use Rattle.solid_tours.proofs.PlaceLaws.{few, most, start_inside, start_above, start_below, goal_inside, goal_is}
-use native.Mathlib.Omega.{arith}
 use Rattle.solid_tours.proofs.tour.rank_start.Given as goal
 
 abbrev pub invariant-loop-low : goal.invariant-loop-low

@@ -1,5 +1,4 @@
 -- `solid_tours::tour::run_square` meets its contract: a box that is no nearer spares its edges.
-use borrow.Author.Rules.{rules}
 use mathlib.Core.Path.{refl, sym, ◌∙◌}
 use Rattle.solid_tours.proofs.PlaceLaws.{most}
 use Rattle.solid_tours.proofs.BoxLaws.{box_there, run_spared}

@@ -1,5 +1,4 @@
 -- `solid_volumes::volume::pyramid_volume` meets its contract.
-use borrow.Author.Rules.{rules}
 use Rattle.solid_volumes.specs.Volume.{pyramid}
 use Rattle.solid_volumes.proofs.volume.pyramid_volume.Goals as goal
 

@@ -1,5 +1,4 @@
 -- `wall_ray::attempt::is_next` meets its contract.
-use borrow.Author.Rules.{rules}
 use Rattle.wall_ray.proofs.attempt.is_next.Goals as goal
 
 pub returns : goal.returns

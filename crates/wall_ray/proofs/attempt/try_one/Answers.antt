@@ -1,6 +1,4 @@
 -- `wall_ray::attempt::try_one` meets its contract.
-use borrow.Author.Rules.{rules}
-use borrow.Author.Tests.{not-true, not-false}
 use mathlib.Core.Path.{◌≡◌, refl, ◌∙◌}
 use native.Mathlib.Omega.{arith}
 use Rattle.file_part.specs.Part.{part_of}

@@ -1,5 +1,4 @@
 -- `wall_ray::slab::is_run_reached` meets its contract.
-use borrow.Author.Rules.{rules}
 use Rattle.wall_ray.proofs.SlabLaws.{reached_by}
 use Rattle.wall_ray.proofs.slab.is_run_reached.Goals as goal
 

@@ -1,5 +1,4 @@
 -- `wall_ray::slab::slab` meets its contract.
-use borrow.Author.Rules.{rules}
 use Rattle.wall_ray.proofs.SlabLaws.{chained, endless_is}
 use Rattle.wall_ray.proofs.slab.slab.Goals as goal
 

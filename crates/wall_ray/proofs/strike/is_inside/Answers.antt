@@ -1,19 +1,10 @@
 -- `wall_ray::strike::is_inside` meets its contract.
-use borrow.Author.Rules.{rules}
-use borrow.Author.Tests.{not-true, not-false}
-use mathlib.Core.Path.{◌≡◌}
-use mathlib.Core.Bool.{true}
-use Prim.Native.Nat.{◌≤◌, ◌-◌}
-use native.Mathlib.Omega.{arith}
-use Rattle.list_laws.specs.Below.{all_below}
 use Rattle.list_laws.proofs.Below.{all_none}
-use Rattle.solid_polygon.specs.Work.{corner_at}
-use Rattle.wall_ray.specs.Strike.{is_within}
 use Rattle.wall_ray.proofs.StruckLaws.{sides_more, side_fails, sides_all}
 use Rattle.wall_ray.proofs.strike.is_inside.Goals as goal
 
 pub loop-k-init : goal.loop-k-init
-loop-k-init c = (omega arith, all_none _)
+loop-k-init c = all_none _
 
 pub is_within-requires : goal.is_within-requires
 is_within-requires c =
@@ -25,11 +16,8 @@ is_within-requires c =
 pub returns-then-not-is_within : goal.returns-then-not-is_within
 returns-then-not-is_within c = side_fails _ _ _ _ _ _ c.loop-k-test.true c.is_within.ensures c.if-not-is_within.true
 
-pub loop-k-smaller : goal.loop-k-smaller
-loop-k-smaller c = omega (arith, c.loop-k-test.true)
-
 pub loop-k-preserved : goal.loop-k-preserved
-loop-k-preserved c = (omega (arith, c.loop-k-test.true), sides_more _ _ _ _ _ _ c.loop-k.invariant.1 c.is_within.ensures c.if-not-is_within.false)
+loop-k-preserved c = sides_more _ _ _ _ _ _ c.loop-k.invariant c.is_within.ensures c.if-not-is_within.false
 
 pub returns : goal.returns
-returns c = sides_all _ _ _ _ _ c.loop-k.invariant.0 c.loop-k-test.false c.loop-k.invariant.1
+returns c = sides_all _ _ _ _ _ c.loop-k.auto.k-end c.loop-k-test.false c.loop-k.invariant

@@ -1,5 +1,4 @@
 -- `wall_ray::strike::is_reached` meets its contract.
-use borrow.Author.Rules.{rules}
 use Rattle.wall_ray.proofs.strike.is_reached.Goals as goal
 
 pub returns : goal.returns

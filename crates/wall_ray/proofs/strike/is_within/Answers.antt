@@ -1,5 +1,4 @@
 -- `wall_ray::strike::is_within` meets its contract.
-use borrow.Author.Rules.{rules}
 use native.Mathlib.Omega.{arith}
 use Rattle.solid_polygon.specs.Work.{corner_at}
 use Rattle.wall_ray.specs.Strike.{is_within}

@@ -1,5 +1,4 @@
 -- `wall_samples::cast::faces_back` meets its contract.
-use borrow.Author.Rules.{rules}
 use Rattle.wall_samples.proofs.cast.faces_back.Goals as goal
 
 pub plane_at-requires : goal.plane_at-requires

@@ -1,6 +1,5 @@
 -- `wall_samples::store::put_face` meets its contract.
-use borrow.Author.Rules.{rules}
-use mathlib.Core.Path.{◌∙◌}
+use mathlib.Core.Path.{refl}
 use Rattle.file_part.specs.Part.{part_of}
 use Rattle.solid_faces.proofs.BodyLaws.{checked_faces}
 use Rattle.wall_starts.proofs.ShareLaws.{wanted_least}
@@ -8,26 +7,14 @@ use Rattle.wall_samples.proofs.FaceLaws.{order_room, order_count, order_standing
 use native.Mathlib.Omega.{arith}
 use Rattle.wall_samples.proofs.store.put_face.Goals as goal
 
-pub overflow_add-at : goal.overflow_add-at
-overflow_add-at c = omega (arith, c.requires.ready_1.standing, c.requires.face_bound_1, checked_faces _ c.requires.ready_1.standing.placed.checked)
+pub overflow_add-first : goal.overflow_add-first
+overflow_add-first c = omega (arith, c.requires.ready_1.standing, c.requires.face_bound_1, checked_faces _ c.requires.ready_1.standing.placed.checked)
 
 pub offset_bounds-words-at : goal.offset_bounds-words-at
 offset_bounds-words-at c = omega (arith, c.requires.ready_1.standing, c.requires.face_bound_1, checked_faces _ c.requires.ready_1.standing.placed.checked)
 
 pub bounds-words-at : goal.bounds-words-at
 bounds-words-at c = omega (arith, c.requires.ready_1.standing, c.requires.face_bound_1, checked_faces _ c.requires.ready_1.standing.placed.checked)
-
-pub offset_bounds-reals-falling : goal.offset_bounds-reals-falling
-offset_bounds-reals-falling c = omega (arith, c.requires.ready_1.standing)
-
-pub slice_bounds-face_order-count : goal.slice_bounds-face_order-count
-slice_bounds-face_order-count c = omega (arith, c.requires.ready_1.standing)
-
-pub slice_bounds-face_order-start : goal.slice_bounds-face_order-start
-slice_bounds-face_order-start c = omega (arith, c.requires.ready_1.standing)
-
-pub slice_bounds-face_order-end : goal.slice_bounds-face_order-end
-slice_bounds-face_order-end c = omega (arith, c.requires.ready_1.standing)
 
 pub face_order-n-requires : goal.face_order-n-requires
 face_order-n-requires c =
@@ -39,18 +26,12 @@ face_order-n-requires c =
 pub put_picks-requires : goal.put_picks-requires
 put_picks-requires c =
     record {
-      fact_1 = order_standing _ _ _ _ c.requires.ready_1 _ _ _ _ c.requires.face_bound_1 c.wide-first.ensures c.face_order-n.ensures;
-      fact_2 = order_listed _ _ _ _ c.requires.ready_1 _ _ _ _ c.requires.face_bound_1 c.wide-first.ensures c.face_order-n.ensures;
-      fact_3 = omega (arith, order_count _ _ _ _ c.requires.ready_1 _ _ _ _ c.requires.face_bound_1 c.wide-first.ensures c.face_order-n.ensures, c.requires.face_bound_2);
+      fact_1 = order_standing _ _ _ _ c.requires.ready_1 _ _ _ _ c.requires.face_bound_1 refl c.face_order-n.ensures;
+      fact_2 = order_listed _ _ _ _ c.requires.ready_1 _ _ _ _ c.requires.face_bound_1 refl c.face_order-n.ensures;
+      fact_3 = omega (arith, order_count _ _ _ _ c.requires.ready_1 _ _ _ _ c.requires.face_bound_1 refl c.face_order-n.ensures, c.requires.face_bound_2);
       fact_4 = omega (arith, c.requires.ready_2, wanted_least (part_of c.args.file.now) c.args.turn.face);
     }
 
-pub shape_of-words : goal.shape_of-words
-shape_of-words c = c.put_picks.ensures.words_kept.long ∙ c.face_order-n.ensures.kept.long
-
-pub shape_of-reals : goal.shape_of-reals
-shape_of-reals c = c.put_picks.ensures.reals_kept.long
-
 pub returns : goal.returns
 returns c =
-    face_put _ _ _ _ c.requires.ready_1 _ _ _ _ c.requires.face_bound_1 c.wide-first.ensures c.face_order-n.ensures _ _ _ _ _ c.requires.ready_2 (omega (arith, c.requires.face_bound_2)) c.put_picks.ensures
+    face_put _ _ _ _ c.requires.ready_1 _ _ _ _ c.requires.face_bound_1 refl c.face_order-n.ensures _ _ _ _ _ c.requires.ready_2 (omega (arith, c.requires.face_bound_2)) c.put_picks.ensures

@@ -1,15 +1,10 @@
 -- `wall_samples::store::put_picks` meets its contract.
-use borrow.Author.Rules.{rules}
-use mathlib.Core.Path.{◌≡◌, ap, ◌∙◌}
-use Prim.Native.Nat.{ℕ, ◌+◌, ◌*◌, ◌-◌, ◌≤◌, ◌<◌}
+use mathlib.Core.Path.{◌≡◌}
+use Prim.Native.Nat.{◌+◌, ◌*◌, ◌-◌, ◌≤◌}
 use Rattle.list_laws.specs.Region.{part}
 use Rattle.file_part.specs.Part.{part_of}
 use Rattle.wall_samples.specs.Samples.{picks_to}
 use Rattle.wall_samples.specs.Work.{Added}
-use Rattle.wall_samples.proofs.PicksLaws.{step_up, step_next}
-use Rattle.wall_samples.proofs.StoredLaws.{standing_still}
-use Rattle.wall_samples.proofs.TurnLaws.{goes_on, picked, pick_room, picks_start, picks_turn, picks_done}
-use native.Mathlib.Omega.{arith}
 use Rattle.wall_samples.proofs.store.put_picks.Given as goal
 
 abbrev pub invariant-loop-i : goal.invariant-loop-i

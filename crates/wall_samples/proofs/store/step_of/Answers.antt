@@ -1,23 +1,14 @@
 -- `wall_samples::store::step_of` meets its contract.
-use borrow.Author.Rules.{rules}
-use mathlib.Core.Path.{refl}
-use Rattle.wall_starts.proofs.ShareLaws.{step_one, step_more}
-use Rattle.wall_samples.proofs.PicksLaws.{step_most}
 use native.Mathlib.Omega.{arith}
+use native.Mathlib.Nat.{div-le_self}
+use Rattle.wall_starts.specs.Starts.{step_of}
 use Rattle.wall_samples.proofs.store.step_of.Goals as goal
 
-pub returns-then-step-lt1 : goal.returns-then-step-lt1
-returns-then-step-lt1 c =
-    record {
-      fact_1 = step_one _ _ _ refl c.if-step-lt1.true;
-      fact_2 = omega arith;
-      fact_3 = omega arith;
-    }
-
 pub returns : goal.returns
+unfolding step_of
 returns c =
     record {
-      fact_1 = step_more _ _ _ refl c.if-step-lt1.false;
-      fact_2 = c.if-step-lt1.false;
-      fact_3 = step_most _ _;
+      fact_1 = omega (arith, c.max.ensures);
+      fact_2 = omega (arith, c.max.ensures);
+      fact_3 = omega (arith, c.max.ensures, div-le_self c.args.n c.args.want);
     }

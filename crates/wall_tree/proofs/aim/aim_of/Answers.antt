@@ -1,5 +1,4 @@
 -- `wall_tree::aim::aim_of` meets its contract.
-use borrow.Author.Rules.{rules}
 use native.Mathlib.Omega.{arith}
 use Rattle.wall_tree.proofs.AimLaws.{aimed, sides}
 use Rattle.wall_tree.proofs.aim.aim_of.Goals as goal

@@ -1,5 +1,4 @@
 -- `wall_tree::aim::met` meets its contract.
-use borrow.Author.Rules.{rules}
 use Rattle.wall_tree.proofs.aim.met.Goals as goal
 
 pub returns : goal.returns

@@ -1,5 +1,4 @@
 -- `wall_tree::aim::near_at` meets its contract.
-use borrow.Author.Rules.{rules}
 use Rattle.wall_tree.proofs.aim.near_at.Goals as goal
 
 pub returns-then-i : goal.returns-then-i

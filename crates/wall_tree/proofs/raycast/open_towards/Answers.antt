@@ -1,5 +1,4 @@
 -- `wall_tree::raycast::open_towards` meets its contract.
-use borrow.Author.Rules.{rules}
 use Rattle.wall_ray.proofs.ScanLaws.{open_is}
 use Rattle.wall_tree.proofs.raycast.open_towards.Goals as goal
 

@@ -1,15 +1,8 @@
 -- `wall_tree::walk::is_clear` meets its contract.
 use borrow.Author.Rules.{rules}
-use borrow.Author.Tests.{not-true, not-false}
-use mathlib.Core.Path.{◌≡◌}
-use Prim.Native.Nat.{◌≤◌, ◌-◌}
 use native.Mathlib.Omega.{arith}
-use Rattle.file_part.specs.Part.{part_of}
 use Rattle.solid_faces.proofs.BodyLaws.{readable_long, checked_readable, polygons_are}
-use Rattle.solid_boxes.specs.Tree.{start_at, PartTree}
 use Rattle.solid_boxes.proofs.OwnLaws.{small_count}
-use Rattle.wall_ray.specs.declared.strike.Hit.TheVariants.{Nothing}
-use Rattle.wall_tree.specs.Work.{Kept}
 use Rattle.wall_tree.proofs.WalkLaws.{begin, none_kept, box_room, few_nodes, skip_room, start_room, skip_on, past_to, the_order, next_on, next_start, leaf_rises, leaf_ends, done, stops, goes_on, clear}
 use Rattle.wall_tree.proofs.walk.is_clear.Goals as goal
 
@@ -74,14 +67,14 @@ try_leaf-h-requires c =
       vertices_value_2 = c.aim_of-aim.ensures.fact_1.inverse;
     }
 
-pub returns-then-not-is_nothing : goal.returns-then-not-is_nothing
-returns-then-not-is_nothing c = stops _ c.requires.checked_1 c.args.ray c.args.words.now _ _ _ (c.try_leaf-h.ensures.step c.loop-a.invariant.1.1) c.is_nothing.ensures c.if-not-is_nothing.true
+pub returns-then-is_some : goal.returns-then-is_some
+returns-then-is_some c = stops _ c.requires.checked_1 c.args.ray c.args.words.now _ _ _ (c.try_leaf-h.ensures.step c.loop-a.invariant.1.1) c.is_some.ensures c.if-is_some.true
 
 pub loop-a-smaller : goal.loop-a-smaller
 loop-a-smaller c = omega (arith, few_nodes _ c.requires.checked_1 c.args.ray _ _ _ (polygons_are _ _ c.polygon_count-polygons.ensures) c.requires.part_tree _ _ (c.loop-a.invariant.0 c.requires.part_tree) c.loop-a.invariant.1.0 c.loop-a-test.true)
 
 pub loop-a-preserved : goal.loop-a-preserved
-loop-a-preserved c = ((λ W. next_on _ c.requires.checked_1 c.args.ray _ _ _ (polygons_are _ _ c.polygon_count-polygons.ensures) W _ _ (c.loop-a.invariant.0 W) c.loop-a.invariant.1.0 c.loop-a-test.true), (next_start _ c.requires.checked_1 c.args.ray _ _ _ (polygons_are _ _ c.polygon_count-polygons.ensures) c.requires.part_tree _ _ (c.loop-a.invariant.0 c.requires.part_tree) c.loop-a.invariant.1.0 c.loop-a-test.true _ c.cell-e.ensures, goes_on _ c.requires.checked_1 c.args.ray c.args.words.now _ _ _ (c.try_leaf-h.ensures.step c.loop-a.invariant.1.1) c.is_nothing.ensures c.if-not-is_nothing.false))
+loop-a-preserved c = ((λ W. next_on _ c.requires.checked_1 c.args.ray _ _ _ (polygons_are _ _ c.polygon_count-polygons.ensures) W _ _ (c.loop-a.invariant.0 W) c.loop-a.invariant.1.0 c.loop-a-test.true), (next_start _ c.requires.checked_1 c.args.ray _ _ _ (polygons_are _ _ c.polygon_count-polygons.ensures) c.requires.part_tree _ _ (c.loop-a.invariant.0 c.requires.part_tree) c.loop-a.invariant.1.0 c.loop-a-test.true _ c.cell-e.ensures, goes_on _ c.requires.checked_1 c.args.ray c.args.words.now _ _ _ (c.try_leaf-h.ensures.step c.loop-a.invariant.1.1) c.is_some.ensures c.if-is_some.false))
 
 pub returns : goal.returns
 returns c = clear _ c.requires.checked_1 _ (done _ c.requires.checked_1 c.args.ray _ _ _ (polygons_are _ _ c.polygon_count-polygons.ensures) c.requires.part_tree _ _ _ (c.loop-a.invariant.0 c.requires.part_tree) c.loop-a.invariant.1.0 c.loop-a-test.false c.loop-a.invariant.1.1).scanned

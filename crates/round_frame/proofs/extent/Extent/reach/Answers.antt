@@ -1,5 +1,4 @@
 -- `round_frame::extent::Extent::reach` meets its contract.
-use borrow.Author.Rules.{rules}
 use Rattle.round_frame.specs.Frame.{reach}
 use Rattle.round_frame.proofs.extent.Extent.reach.Goals as goal
 

@@ -1,5 +1,4 @@
 -- `round_frame::frame::Frame::height` meets its contract.
-use borrow.Author.Rules.{rules}
 use Rattle.round_frame.specs.Frame.{height_of}
 use Rattle.round_frame.proofs.frame.Frame.height.Goals as goal
 

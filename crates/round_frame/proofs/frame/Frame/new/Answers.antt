@@ -1,5 +1,4 @@
 -- `round_frame::frame::Frame::new` meets its contract.
-use borrow.Author.Rules.{rules}
 use Rattle.round_frame.specs.Frame.{across_of, frame_of}
 use Rattle.round_frame.proofs.frame.Frame.new.Goals as goal
 

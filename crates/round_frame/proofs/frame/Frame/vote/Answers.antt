@@ -1,5 +1,4 @@
 -- `round_frame::frame::Frame::vote` meets its contract.
-use borrow.Author.Rules.{rules}
 use Rattle.round_frame.specs.Frame.{height_of, radial_of, vote_of}
 use Rattle.round_frame.proofs.frame.Frame.vote.Goals as goal
 

@@ -1,5 +1,4 @@
 -- `round_frame::measure::Measure::new` meets its contract.
-use borrow.Author.Rules.{rules}
 use Rattle.round_frame.specs.Frame.{measure_of}
 use Rattle.round_frame.proofs.measure.Measure.new.Goals as goal
 

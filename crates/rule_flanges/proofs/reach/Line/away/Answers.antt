@@ -1,5 +1,4 @@
 -- `rule_flanges::reach::Line::away` meets its contract: the offset less its part along the line.
-use borrow.Author.Rules.{rules}
 use Rattle.rule_flanges.proofs.ReachLaws.{away_is}
 use Rattle.rule_flanges.proofs.reach.Line.away.Goals as goal
 

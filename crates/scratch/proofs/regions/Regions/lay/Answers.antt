@@ -1,5 +1,4 @@
 -- `scratch::regions::Regions::lay` meets its contract: region by region.
-use borrow.Author.Rules.{rules}
 use mathlib.Core.Path.{refl}
 use native.Mathlib.Omega.{arith}
 use Rattle.scratch.proofs.regions.Regions.lay.Goals as goal

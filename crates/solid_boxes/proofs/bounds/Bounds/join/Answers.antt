@@ -1,5 +1,4 @@
 -- `solid_boxes::bounds::Bounds::join` meets its contract.
-use borrow.Author.Rules.{rules}
 use Rattle.solid_boxes.specs.Work.{joined}
 use Rattle.solid_boxes.proofs.bounds.Bounds.join.Goals as goal
 

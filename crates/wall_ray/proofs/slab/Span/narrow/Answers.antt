@@ -1,5 +1,4 @@
 -- `wall_ray::slab::Span::narrow` meets its contract.
-use borrow.Author.Rules.{rules}
 use Rattle.wall_ray.proofs.SlabLaws.{moved_nan, moved_up, moved_down}
 use Rattle.wall_ray.proofs.slab.Span.narrow.Goals as goal
 

@@ -1,5 +1,4 @@
 -- `wall_ray::strike::Ray::point` meets its contract.
-use borrow.Author.Rules.{rules}
 use Rattle.wall_ray.specs.Strike.{point_of}
 use Rattle.wall_ray.proofs.strike.Ray.point.Goals as goal
 

@@ -1,5 +1,4 @@
 -- `wall_ray::strike::Ray::time` meets its contract.
-use borrow.Author.Rules.{rules}
 use Rattle.wall_ray.specs.Strike.{time_of}
 use Rattle.wall_ray.proofs.strike.Ray.time.Goals as goal
 
