@@ -21,7 +21,7 @@ use crate::sheet::{
 use fault_row::flaw::Flaw;
 use num_text::text::Text;
 
-// The text of a flaw, from the position `at` on. The position after it.
+// The text of a flaw.
 // A match, not a table of closures: each message has its own numbers.
 pub fn put_message(text: &mut Text<'_>, file: &[u8], flaw: Flaw)
     requires { Checked file.now }

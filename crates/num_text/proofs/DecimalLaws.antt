@@ -234,6 +234,12 @@ module _ (x : Float) (p : ℕ) {before after : List ℕ} {r : Result ℕ Refusal
       go true k = refl
       go false k = cc
 
+  -- so the text is what stands in the first n bytes
+  pub written_within : {n : ℕ} → r ≡ Ok n → n ≤ length after
+  written_within {n} e =
+      let t = written_text e in
+      omega (arith, t.0, ap length t.1, length-append (decimal_text x p) (drop n before))
+
   pub written_front : {n : ℕ} → r ≡ Ok n → take n after ≡ decimal_text x p
   written_front {n} e =
       let t = written_text e in

@@ -4,25 +4,6 @@ use Rattle.std.specs.Prelude.{ℕ}
 use Rattle.refusal.specs.declared.Refusal.{Refusal}
 use Rattle.refusal.specs.declared.Refusal.TheVariants.{TooShort, WrongEdition, TooLarge, WrongLength, BadJob, BadVertex, BadPolygon, FlatPolygon, TooManyFaces, TooLittleScratch, TooManyFaults, ReportTooLong, NoDecimal, BadLine, UndefinedVertex, OutputTooShort}
 
--- the number of a refusal
-abbrev pub number : Refusal → ℕ
-number TooShort = 1
-number WrongEdition = 2
-number TooLarge = 3
-number WrongLength = 4
-number BadJob = 5
-number BadVertex = 6
-number BadPolygon = 7
-number FlatPolygon = 8
-number TooManyFaces = 9
-number TooLittleScratch = 10
-number TooManyFaults = 11
-number ReportTooLong = 12
-number NoDecimal = 13
-number BadLine = 14
-number UndefinedVertex = 15
-number OutputTooShort = 16
-
 -- ---- of a part file, by its bytes
 -- shorter than 144 bytes
 abbrev pub too_short_of : ℕ
@@ -91,3 +72,22 @@ undefined_vertex = 15
 -- OBJ text: output buffer shorter than the part file
 abbrev pub output_too_short : ℕ
 output_too_short = 16
+
+-- ---- the number of a refusal
+abbrev pub number : Refusal → ℕ
+number TooShort = too_short_of
+number WrongEdition = wrong_edition
+number TooLarge = too_large
+number WrongLength = wrong_length
+number BadJob = bad_job_of
+number BadVertex = bad_vertex_of
+number BadPolygon = bad_polygon
+number FlatPolygon = flat_polygon_of
+number TooManyFaces = too_many_faces_of
+number TooLittleScratch = too_little_scratch
+number TooManyFaults = too_many_faults
+number ReportTooLong = report_too_long
+number NoDecimal = no_decimal
+number BadLine = bad_line
+number UndefinedVertex = undefined_vertex
+number OutputTooShort = output_too_short

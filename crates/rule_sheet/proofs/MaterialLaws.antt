@@ -6,7 +6,11 @@ use Prim.Native.Nat.{ℕ}
 use native.Mathlib.Omega.{arith}
 use lib.IntN.{pos}
 use lib.Ieee.{Float, binary64, div, of_int, of_bits}
+use denote.Enum.Declared.{tag_of}
 use Rattle.math.specs.Vector.{one}
+use Rattle.file_job.specs.declared.MaterialClass.{MaterialClass}
+use Rattle.file_job.specs.declared.MaterialClass.TheVariants.{Metal, Plastic}
+use Rattle.file_job.specs.contracts.MaterialClass as material-class
 use Rattle.file_job.specs.declared.Job.{Job}
 use Rattle.fault_row.specs.declared.flaw.Flaw.{Flaw}
 use Rattle.fault_row.specs.declared.flaw.Flaw.TheVariants.{NoMaterial, Material}
@@ -17,6 +21,17 @@ use Rattle.rule_flanges.specs.fault_text.specs.Good.{Good}
 use Rattle.rule_flanges.specs.fault_text.specs.Good.{Good}
 use Rattle.rule_sheet.specs.Material.{is_metal, is_formed, ratio_of, material_flaws}
 use Rattle.rule_sheet.specs.Work.{MaterialPut}
+
+-- ---- the class, by its place among the variants
+pub metal_is : (x : MaterialClass) → tag_of material-class.the_type x ≡ 0 → true ≡ is_metal x
+unfolding is_metal
+metal_is Metal h = refl
+metal_is Plastic h = absurd (omega (arith, h))
+
+pub plastic_is : (x : MaterialClass) → tag_of material-class.the_type x ≡ 1 → false ≡ is_metal x
+unfolding is_metal
+plastic_is Metal h = absurd (omega (arith, h))
+plastic_is Plastic h = refl
 
 -- ---- whether it is formed
 pub formed_none : (job : Job) → job.has_material ≡ false → true ≡ is_formed job

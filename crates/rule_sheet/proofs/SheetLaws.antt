@@ -26,8 +26,9 @@ use Rattle.wall_samples.specs.Stored.{Readings}
 use Rattle.wall_pairs.proofs.KeptLaws.{rounds_kept}
 use Rattle.round_all.specs.Kept.{Rounds}
 use Rattle.measure_sizes.specs.Reading.{ReadingBounds}
-use Rattle.std.specs.Prelude.{Option, None}
+use Rattle.std.specs.Prelude.{Result, Err}
 use Rattle.sheet_thickness.specs.declared.Thickness.{Thickness}
+use Rattle.sheet_thickness.specs.declared.NoneKept.{NoneKept}
 use Rattle.sheet_thickness.specs.Thickness.{kept_readings, thickness_of, thinnest_of, thickest_of, is_uneven}
 use Rattle.sheet_thickness.specs.Kept.{ThicknessIs, Measured, OffFaces}
 use Rattle.sheet_thickness.proofs.KeptLaws.{still_read, still_ordered}
@@ -76,7 +77,7 @@ uneven_put {found} {from} {r} {cells} {cells'} {numbers} {numbers'} p =
         FlawsPut (Good (part_of s)) from (uneven_flaw (part_of s) ∷ []) cells cells' numbers numbers' r
     one s checked is faces =
         let t = part_of s in
-        let b = thickness_bounds s checked is.kept in
+        let b = thickness_bounds s checked is.some in
         flaws_one (uneven_flaw t) (row_put_same (ap row_of (uneven_is t found is)) p) (uneven_good t faces (bounds_accepted _ b.1) (bounds_accepted _ b.2) (bounds_accepted _ b.0))
 
 -- ---- the bends, the flanges and the holes
@@ -107,7 +108,7 @@ module _ (t : Part) where
   sheet_found e u = (unfold formed_flaws in rw (e, u) refl, unfold formed_summary in rw (e, u) refl)
 
 -- ---- a part that can be formed
-module _ (s : List ℕ) (at : Regions) (w0 w1 w2 : List ℕ) (r0 r1 r2 : List Float) (n : ℕ) (ready : Ready) (found : Option Thickness) (h : Standing s at w0 r0) (faces : n ≡ faces_of (part_of s))
+module _ (s : List ℕ) (at : Regions) (w0 w1 w2 : List ℕ) (r0 r1 r2 : List Float) (n : ℕ) (ready : Ready) (found : Result Thickness NoneKept) (h : Standing s at w0 r0) (faces : n ≡ faces_of (part_of s))
     (made : ReadyPut s at w0 w1 r0 r1 ready) (measured : Measured (part_of s) at w1 w2 r1 r2 found) where
   abbrev t : Part
   t = part_of s
@@ -137,10 +138,10 @@ module _ (s : List ℕ) (at : Regions) (w0 w1 w2 : List ℕ) (r0 r1 r2 : List Fl
   reals_then = outside_then nan _ _ r0 r1 r2 made.reals_kept (outside_wide nan _ _ _ _ r1 r2 (omega arith) (omega (arith, laid)) measured.reals_kept)
 
   -- ---- no reading is kept
-  pub formed_none : {from : ℕ} {cells : List ℕ} {numbers : List Float} → from ≤ 1 → found ≡ None → (x : Summary) → x ≡ no_summary →
+  pub formed_none : {from : ℕ} {cells : List ℕ} {numbers : List Float} → from ≤ 1 → (v : NoneKept) → found ≡ Err v → (x : Summary) → x ≡ no_summary →
       FormedPut s at from w0 w2 r0 r2 cells cells numbers numbers (record { faults = from; summary = x })
-  formed_none {from} {cells} {numbers} few none x e =
-      let empty = measured_none t (measured.none none) in
+  formed_none {from} {cells} {numbers} few v none x e =
+      let empty = measured_none t (measured.none v none).0 in
       record {
         put = flaws_same (none_found t empty).0 (flaws_none from cells numbers);
         few = omega (arith, few);
@@ -154,7 +155,7 @@ module _ (s : List ℕ) (at : Regions) (w0 w1 w2 : List ℕ) (r0 r1 r2 : List Fl
 
   module _ (v : Thickness) (is : ThicknessIs t v) where
     full : is_measured t ≡ true
-    full = measured_some t is.kept
+    full = measured_some t is.some
 
     -- ---- not one thickness
     module _ (w3 : List ℕ) (uneven : v.uneven ≡ true) (marks : OffFaces t at w3) (w : Outside 0 at.order at.kinds w2 w3) where
@@ -191,7 +192,7 @@ module _ (s : List ℕ) (at : Regions) (w0 w1 w2 : List ℕ) (r0 r1 r2 : List Fl
 
     -- ---- one thickness
     pub thick_bounds : ReadingBounds v.value
-    thick_bounds = subst ReadingBounds (sym is.value) (thickness_bounds s h.placed.checked is.kept).0
+    thick_bounds = subst ReadingBounds (sym is.value) (thickness_bounds s h.placed.checked is.some).0
 
     module _ (w3 : List ℕ) (b : ℕ) (even : v.uneven ≡ false) (bends : BendsPut t v.value at w2 w3 b) where
       pub sheet_there : SheetStands s (record { edges = record { at = at; faces = n; items = ready.items }; thickness = v.value }) w3 r2

@@ -90,7 +90,7 @@ fn put_formed(
         faces: n,
         items: ready.items,
     };
-    let Some(found) = measure(file, words, reals, edges, ready.readings) else {
+    let Ok(found) = measure(file, words, reals, edges, ready.readings) else {
         return Found {
             faults: from,
             summary: Summary::none(),

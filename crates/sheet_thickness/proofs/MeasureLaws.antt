@@ -19,8 +19,9 @@ use Rattle.wall_samples.specs.Stored.{reading, Readings}
 use Rattle.wall_median.specs.Rough.{rough_of}
 use Rattle.sheet_thickness.specs.declared.Middle.{Middle}
 use Rattle.sheet_thickness.specs.Thickness.{six_tenths, fifteen_hundredths, edge_limit, is_kept, kept_readings, is_off, added_to, off_area_of, is_uneven}
-use Rattle.std.specs.Prelude.{Some, None}
+use Rattle.std.specs.Prelude.{Ok, Err}
 use Rattle.sheet_thickness.specs.declared.Thickness.{Thickness}
+use Rattle.sheet_thickness.specs.declared.NoneKept.{NoneKept}
 use Rattle.sheet_thickness.specs.Kept.{ThicknessIs, Measured}
 use Rattle.sheet_thickness.specs.Work.{DistancesPut, is_far, is_far_off, PassingPut, KeptStand, MiddleIs}
 use Rattle.sheet_thickness.proofs.ListLaws.{added_same}
@@ -99,10 +100,13 @@ module _ (s : List ℕ) (at : Regions) (words : List ℕ) (reals : List Float) (
         )
 
         -- there is none
-        pub none_measured : n ≡ 0 → Measured t at words words2 reals reals1 None
+        abbrev found_none : NoneKept
+        found_none = record { limit = limit }
+
+        pub none_measured : n ≡ 0 → Measured t at words words2 reals reals1 (Err found_none)
         none_measured none =
             record {
-              none = λ _. omega (arith, none, count_is);
+              none = λ y e. let same : found_none ≡ y = cc in (omega (arith, none, count_is), subst (λ (z : NoneKept). z.limit ≡ edge_limit t) same (limit_is t x ex));
               some = λ y e. cc;
               distances = d.distances;
               words_kept = w2;
@@ -128,6 +132,7 @@ module _ (s : List ℕ) (at : Regions) (words : List ℕ) (reals : List Float) (
           abbrev found : Thickness
           found =
               record {
+                kept = n;
                 limit = limit;
                 value = r.value;
                 thinnest = r.thinnest;
@@ -138,7 +143,8 @@ module _ (s : List ℕ) (at : Regions) (words : List ℕ) (reals : List Float) (
           found_is : 1 ≤ n → ThicknessIs t found
           found_is some =
               record {
-                kept = omega (arith, some, count_is);
+                some = omega (arith, some, count_is);
+                kept = count_is;
                 limit = limit_is t x ex;
                 value = i.value;
                 thinnest = i.thinnest;
@@ -146,10 +152,10 @@ module _ (s : List ℕ) (at : Regions) (words : List ℕ) (reals : List Float) (
                 uneven = uneven_is;
               }
 
-          pub measured : (n ≡ 0 → ⊥) → Measured t at words words3 reals reals1 (Some found)
+          pub measured : (n ≡ 0 → ⊥) → Measured t at words words3 reals reals1 (Ok found)
           measured some =
               record {
-                none = λ e. cc;
+                none = λ y e. cc;
                 some = λ y e. let same : found ≡ y = cc in subst (ThicknessIs t) same (found_is (omega (arith, some)));
                 distances = d.distances;
                 words_kept = outside_then 0 _ _ words words2 words3 w2 w3;

@@ -1,5 +1,5 @@
 -- What the scratch holds of a sheet's readings, and what is found of its thickness. Definitions only.
-use Rattle.std.specs.Prelude.{◌≡◌, cond, List, ℕ, ◌+◌, ◌≤◌, ◌<◌, length, get_or, Float, Option, Some, None}
+use Rattle.std.specs.Prelude.{◌≡◌, cond, List, ℕ, ◌+◌, ◌≤◌, ◌<◌, length, get_or, Float, Result, Ok, Err}
 use Rattle.std.specs.Float.{nan}
 use Rattle.list_laws.specs.Region.{Outside}
 use Rattle.file_part.specs.Part.{Part}
@@ -7,6 +7,7 @@ use Rattle.solid_faces.specs.Faces.{faces_of}
 use Rattle.scratch.specs.declared.regions.Regions.{Regions}
 use Rattle.wall_samples.specs.Samples.{readings_of}
 use Rattle.sheet_thickness.specs.declared.Thickness.{Thickness}
+use Rattle.sheet_thickness.specs.declared.NoneKept.{NoneKept}
 use Rattle.sheet_thickness.specs.Thickness.{reading_edge, edge_limit, kept_readings, thickness_of, thinnest_of, thickest_of, is_uneven, is_off_face}
 
 -- how far each reading's point is from the segments of its face
@@ -15,18 +16,19 @@ pub record Distances (t : Part) (at : Regions) (reals : List Float) : Type 0 whe
 
 -- what is measured of the readings that are kept, one at least
 pub record ThicknessIs (t : Part) (r : Thickness) : Type 0 where
-  pub kept : 1 ≤ length (kept_readings t)
+  pub some : 1 ≤ length (kept_readings t)
+  pub kept : r.kept ≡ length (kept_readings t)
   pub limit : r.limit ≡ edge_limit t
   pub value : r.value ≡ thickness_of t
   pub thinnest : r.thinnest ≡ thinnest_of t
   pub thickest : r.thickest ≡ thickest_of t
   pub uneven : r.uneven ≡ is_uneven t
 
--- it is measured, where some reading is kept: where none is there is nothing to measure. The distances stand, and of the scratch only the cells of
--- the order and the keys have changed
-pub record Measured (t : Part) (at : Regions) (words words' : List ℕ) (reals reals' : List Float) (r : Option Thickness) : Type 0 where
-  pub none : r ≡ None → length (kept_readings t) ≡ 0
-  pub some : (x : Thickness) → r ≡ Some x → ThicknessIs t x
+-- it is measured, where some reading is kept: where none is there is the limit alone. The distances stand, and of the scratch only the cells of the
+-- order and the keys have changed
+pub record Measured (t : Part) (at : Regions) (words words' : List ℕ) (reals reals' : List Float) (r : Result Thickness NoneKept) : Type 0 where
+  pub none : (x : NoneKept) → r ≡ Err x → (length (kept_readings t) ≡ 0) × (x.limit ≡ edge_limit t)
+  pub some : (x : Thickness) → r ≡ Ok x → ThicknessIs t x
   pub distances : Distances t at reals'
   pub words_kept : Outside 0 at.order at.kinds words words'
   pub reals_kept : Outside nan at.falling at.thickness reals reals'

@@ -25,15 +25,22 @@ use wall_median::rough;
 use wall_pairs::Counts;
 use wall_samples::sample::sample_at;
 
-// What is measured: how far from the segments of their face readings are kept; their median, the least and the greatest; and whether more of
-// the part than is allowed is off the median.
+// What is measured: how many readings are kept, by how far from the segments of their face; their median, the least and the greatest; and
+// whether more of the part than is allowed is off the median.
 #[derive(Clone, Copy)]
 pub struct Thickness {
+    pub kept: usize,
     pub limit: f64,
     pub value: f64,
     pub thinnest: f64,
     pub thickest: f64,
     pub uneven: bool,
+}
+
+// What is measured where no reading is kept: by how far from the segments of their face.
+#[derive(Clone, Copy)]
+pub struct NoneKept {
+    pub limit: f64,
 }
 
 // The median of the readings that are kept, all their area, the least and the greatest.
@@ -165,15 +172,15 @@ fn middle_of(
     )
 }
 
-// What is measured of a part whose m readings and whose edges stand in the scratch, where some reading is kept. The distances of the readings
-// then stand there too.
+// What is measured of a part whose m readings and whose edges stand in the scratch; where no reading is kept, the limit alone. The distances of
+// the readings then stand there too.
 pub fn measure(
     file: &[u8],
     words: &mut [u32],
     reals: &mut [f64],
     edges: Edges,
     m: usize,
-) -> Option<Thickness>
+) -> Result<Thickness, NoneKept>
     requires edges_ordered_1 { EdgesOrdered file.now edges.at words.old reals.old }
     requires edges_ordered_2 { Readings (part_of file.now) edges.at words.old reals.old }
     requires counted_1 { tours.Counted (part_of file.now) edges }
@@ -185,11 +192,12 @@ pub fn measure(
     put_distances(file, words, reals, edges, m);
     let n = put_kept(words, reals, at, m, limit);
     if n == 0 {
-        return None;
+        return Err(NoneKept { limit });
     }
     let middle = middle_of(file, words, reals, at, m, n);
     let off = off_area(reals, at, m, limit, middle.value);
-    Some(Thickness {
+    Ok(Thickness {
+        kept: n,
         limit,
         value: middle.value,
         thinnest: middle.thinnest,

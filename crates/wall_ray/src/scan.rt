@@ -8,7 +8,7 @@ ghost use Rattle.wall_ray.specs.Nearest.{hit_of, is_nothing_of, Answer};
 
 use crate::attempt::try_one;
 use crate::slab::{inverse, is_run_reached};
-use crate::strike::{Hit, Ray, is_inside, is_reached, plane_at};
+use crate::strike::{Hit, Ray, is_reached, is_within, plane_at};
 use file_part::read::{entry_at, first_vertex, polygon_count, run_length, vertex_count};
 
 // The hit of smallest t, of the lowest number on equal t, by trying every polygon.
@@ -20,23 +20,25 @@ pub fn scan(file: &[u8], planes: &[f64], ray: Ray) -> Option<Hit>
     let vertices = vertex_count(file);
     let inv = inverse(ray);
     let mut best = None;
-    for p in 0..polygon_count(file) {
+    'next: for p in 0..polygon_count(file) {
         let plane = plane_at(planes, p);
         let denom = plane.normal.dot(ray.dir);
         let t = ray.time(plane, denom);
         if !is_reached(denom, t, best) {
-            continue;
+            continue 'next;
         }
         let q = ray.point(t);
         let entry = entry_at(vertices, p);
         let first = first_vertex(file, entry);
         let n = run_length(file, entry);
-        if !is_inside(file, first, n, plane.normal, q) {
-            continue;
+        for k in 0..n {
+            if !is_within(file, first, n, plane.normal, q, k) {
+                continue 'next;
+            }
         }
         // Made only where all other tests pass, about once a ray.
         if !is_run_reached(file, first, n, ray.origin, inv, t) {
-            continue;
+            continue 'next;
         }
         best = Some(Hit { polygon: p, t });
     }
