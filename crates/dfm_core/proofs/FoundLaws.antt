@@ -29,6 +29,9 @@ use Rattle.dfm_core.specs.Work.{asks_segments, StagesFor, Asked, MachinedPut, Fa
 use Rattle.dfm_core.proofs.ToldLaws.{told_machined, told_sheet, told_print}
 
 -- ---- what a process asks for
+pub stages_for : (p q : Process) (r : Stages) → p ≡ q → r.segments ≡ asks_segments q → r.bodies ≡ traps_hollows_of q → StagesFor p r
+stages_for p q r e es eb = record { segments = es ∙ ap asks_segments (sym e); bodies = eb ∙ ap traps_hollows_of (sym e) }
+
 -- each process asks for segments
 pub all_ask : (p : Process) → true ≡ asks_segments p
 unfolding asks_segments

@@ -2,7 +2,7 @@
 -- ToldLaws: the scratch tells the faces of every row that has many
 --   told_machined, told_sheet, told_print               by process
 -- FoundLaws: what is found, by the process of the job
---   all_ask, asked, process_is, with_segments           what a process asks for
+--   stages_for, all_ask, asked, process_is, with_segments   what a process asks for
 --   by_printing             FDM, SLA and SLS print
 --   found-none, found_machined, found_sheet, found_print    a part without faces, and each process
 -- ReportLaws: the two halves, return by return

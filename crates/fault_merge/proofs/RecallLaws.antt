@@ -1,6 +1,6 @@
 -- Rows that agree in kind, severity, numbers and open edges have one heading, and so one hash and one lowest fault.
 use mathlib.Core.Path.{◌≡◌, refl, sym, ap, ap₂, subst, ◌∙◌}
-use mathlib.Core.Bool.{Bool, true, false, cond}
+use mathlib.Core.Bool.{Bool, true, false, ◌&&◌, cond}
 use mathlib.Core.List.{List}
 use Prim.Native.Nat.{ℕ, ◌+◌, ◌*◌, ◌-◌, ◌%◌, ◌≤◌, ◌<◌}
 use native.Mathlib.Nat.{mod-lt}
@@ -11,6 +11,7 @@ use lib.Seq.{get_or-set_other}
 use lib.Ieee.{Float, binary64, fits, of_bits, to_bits}
 use lib.Ieee.Bits.{of_bits-to_bits}
 use borrow.Author.Tests.{eqb-true}
+use Rattle.num_float.proofs.Tests.{and_left, and_right}
 use Rattle.file_part.specs.Part.{Part}
 use Rattle.fault_row.specs.declared.row.FaultRow.{FaultRow}
 use Rattle.fault_row.specs.declared.flaw.Flaw.{Flaw}
@@ -79,6 +80,23 @@ module _ (t : Part) where
       heading_bare r s.a e.edges p ∙ ap₂ (λ (n m : ℕ). head (flaw_of (row n m 1 s.a 0 0 r.x r.y r.z))) e.kind e.severity
       ∙ ap₂ (λ (a b : Float). head (flaw_of (row s.kind s.severity 1 s.a 0 0 a b r.z))) e.x e.y
       ∙ ap (λ (c : Float). head (flaw_of (row s.kind s.severity 1 s.a 0 0 s.x s.y c))) e.z ∙ sym (heading_bare s s.a (λ k. refl) q)
+
+-- w tells that a agrees, b, c and d that the numbers do
+pub row_same : (r s : FaultRow) (w b c d : Bool) → (w ≡ true → r.kind ≡ not_closed → r.a ≡ s.a) → (b ≡ true → r.x ≡ s.x) → (c ≡ true → r.y ≡ s.y) →
+    (d ≡ true → r.z ≡ s.z) → (((eqb r.kind s.kind && eqb r.severity s.severity) && w) && ((b && c) && d)) ≡ true → SameRow r s
+row_same r s w b c d a e f g h =
+    let fields : ((eqb r.kind s.kind && eqb r.severity s.severity) && w) ≡ true = and_left ((eqb r.kind s.kind && eqb r.severity s.severity) && w) ((b && c) && d) h in
+    let heads : (eqb r.kind s.kind && eqb r.severity s.severity) ≡ true = and_left (eqb r.kind s.kind && eqb r.severity s.severity) w fields in
+    let three : ((b && c) && d) ≡ true = and_right ((eqb r.kind s.kind && eqb r.severity s.severity) && w) ((b && c) && d) h in
+    let two : (b && c) ≡ true = and_left (b && c) d three in
+    record {
+      kind = eqb-true _ _ (and_left (eqb r.kind s.kind) (eqb r.severity s.severity) heads);
+      severity = eqb-true _ _ (and_right (eqb r.kind s.kind) (eqb r.severity s.severity) heads);
+      edges = a (and_right (eqb r.kind s.kind && eqb r.severity s.severity) w fields);
+      x = e (and_left b c two);
+      y = f (and_right b c two);
+      z = g (and_right (b && c) d three);
+    }
 
 pub rows_as : (q w r s : FaultRow) → q ≡ r → w ≡ s → SameRow q w → SameRow r s
 rows_as q w r s e d m = subst (λ (x : FaultRow). SameRow x s) e (subst (λ (x : FaultRow). SameRow q x) d m)

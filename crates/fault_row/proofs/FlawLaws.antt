@@ -4,16 +4,20 @@ use mathlib.Core.Logic.{◌⊎◌, inl, inr}
 use mathlib.Core.List.{List, [], ◌∷◌, ◌++◌}
 use Prim.Native.Nat.{ℕ, ◌+◌, ◌-◌, ◌*◌, ◌≤◌, ◌<◌}
 use native.Mathlib.Omega.{arith}
+use borrow.Author.Tests.{ne_eqb}
 use lib.ListN.{length, get_or, length-append, get_or-append}
 use lib.Seq.{get_or-append-add}
 use lib.Ieee.{Float, nan}
 use Rattle.num_float.proofs.Tests.{lt_or_ge}
 use Rattle.list_laws.proofs.Outside.{outside_none, outside_then, outside_wide}
 use Rattle.fault_row.specs.declared.fault.Severity.{Severity}
+use Rattle.fault_row.specs.declared.fault.Severity.TheVariants.{Note}
+use Rattle.fault_row.specs.declared.row.FaultRow.{FaultRow}
 use Rattle.fault_row.specs.declared.flaw.Flaw.{Flaw}
 use Rattle.fault_row.specs.declared.flaw.Flaw.TheVariants.{ThinWall, SmallHole, DeepHoleMax, DeepHoleStandard, TightInsideRadius, DeepInsideCorner, SharpInsideCorner, NoMaterial, Material, NotOneThickness, TightBend, ShortFlange, SheetSmallHole, HoleNearBend, HoleNearEdge, NotClosed, ThinnerThanALayer, FewLayers, ThinnerThanTheNozzle, PrintThinWall, PrintSmallHole, Overhang, EnclosedHollowSla, EnclosedHollowSls}
-use Rattle.fault_row.specs.Row.{row_at_of, row_room, RowPut}
-use Rattle.fault_row.specs.Flaw.{row_of, flaw_of}
+use Rattle.fault_row.specs.Names.{severity_rank, severity_of}
+use Rattle.fault_row.specs.Row.{row, row_at_of, row_room, RowPut}
+use Rattle.fault_row.specs.Flaw.{o, row_of, flaw_of}
 use Rattle.fault_row.specs.Flaws.{none, FlawsPut}
 use Rattle.fault_row.proofs.NameLaws.{severity_of_lem}
 use Rattle.fault_row.proofs.RowLaws.{row_kept}
@@ -45,6 +49,37 @@ flaw_of_row (PrintSmallHole f d) = refl
 flaw_of_row (Overhang count area) = refl
 flaw_of_row (EnclosedHollowSla p volume) = refl
 flaw_of_row (EnclosedHollowSls p volume) = refl
+
+-- ---- in the words of `row_of` and `flaw_of`
+module _ {n f g : ℕ} {x : Float} (s : Severity) (e : n ≡ severity_rank s) where
+  pub thin_wall_row : row 1 n 1 f g 0 x o o ≡ row_of (ThinWall s f g x)
+  unfolding row_of
+  thin_wall_row = ap (λ (v : ℕ). row 1 v 1 f g 0 x o o) e
+
+  pub print_thin_wall_row : row 20 n 1 f g 0 x o o ≡ row_of (PrintThinWall s f g x)
+  unfolding row_of
+  print_thin_wall_row = ap (λ (v : ℕ). row 20 v 1 f g 0 x o o) e
+
+module _ {f g : ℕ} {x : Float} {s : Severity} (n : ℕ) (e : s ≡ severity_of n) where
+  pub thin_wall_flaw : ThinWall s f g x ≡ ThinWall (severity_of n) f g x
+  thin_wall_flaw = ap (λ (v : Severity). ThinWall v f g x) e
+
+  pub print_thin_wall_flaw : PrintThinWall s f g x ≡ PrintThinWall (severity_of n) f g x
+  print_thin_wall_flaw = ap (λ (v : Severity). PrintThinWall v f g x) e
+
+pub last_severity : (n : ℕ) → (n ≡ 0 → ⊥) → (n ≡ 1 → ⊥) → Note ≡ severity_of n
+unfolding severity_of
+last_severity n a b = rw (ne_eqb _ _ a, ne_eqb _ _ b)
+
+-- a row by its kind
+pub by_kind : (r : FaultRow) {k : ℕ} → r.kind ≡ k → flaw_of (row k r.severity r.count r.a r.b r.waived r.x r.y r.z) ≡ flaw_of r
+by_kind r e = ap (λ (k : ℕ). flaw_of (row k r.severity r.count r.a r.b r.waived r.x r.y r.z)) (sym e)
+
+-- none of the kinds but 16
+pub no_kind : (r : FaultRow) → (r.kind ≡ 1 → ⊥) → (r.kind ≡ 2 → ⊥) → (r.kind ≡ 3 → ⊥) → (r.kind ≡ 4 → ⊥) → (r.kind ≡ 5 → ⊥) → (r.kind ≡ 6 → ⊥) → (r.kind ≡ 7 → ⊥) → (r.kind ≡ 8 → ⊥) → (r.kind ≡ 9 → ⊥) → (r.kind ≡ 10 → ⊥) → (r.kind ≡ 11 → ⊥) → (r.kind ≡ 12 → ⊥) → (r.kind ≡ 13 → ⊥) → (r.kind ≡ 14 → ⊥) → (r.kind ≡ 15 → ⊥) → (r.kind ≡ 17 → ⊥) → (r.kind ≡ 18 → ⊥) → (r.kind ≡ 19 → ⊥) → (r.kind ≡ 20 → ⊥) → (r.kind ≡ 21 → ⊥) → (r.kind ≡ 22 → ⊥) → (r.kind ≡ 23 → ⊥) → (r.kind ≡ 24 → ⊥) → NotClosed r.a ≡ flaw_of r
+unfolding flaw_of
+no_kind r n1 n2 n3 n4 n5 n6 n7 n8 n9 n10 n11 n12 n13 n14 n15 n17 n18 n19 n20 n21 n22 n23 n24 =
+    rw (ne_eqb _ _ n1, ne_eqb _ _ n2, ne_eqb _ _ n3, ne_eqb _ _ n4, ne_eqb _ _ n5, ne_eqb _ _ n6, ne_eqb _ _ n7, ne_eqb _ _ n8, ne_eqb _ _ n9, ne_eqb _ _ n10, ne_eqb _ _ n11, ne_eqb _ _ n12, ne_eqb _ _ n13, ne_eqb _ _ n14, ne_eqb _ _ n15, ne_eqb _ _ n17, ne_eqb _ _ n18, ne_eqb _ _ n19, ne_eqb _ _ n20, ne_eqb _ _ n21, ne_eqb _ _ n22, ne_eqb _ _ n23, ne_eqb _ _ n24)
 
 -- ---- flaws put as rows
 module _ {good : Flaw → Type 0} where

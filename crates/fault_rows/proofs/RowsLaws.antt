@@ -1,14 +1,18 @@
 -- Laws of rows that are written, zeroed and taken, one after another.
-use mathlib.Core.Path.{◌≡◌, refl, ◌∙◌, ap}
+use mathlib.Core.Path.{◌≡◌, refl, sym, ◌∙◌, ap}
+use mathlib.Core.Bool.{Bool, cond}
 use mathlib.Core.List.{List, ◌++◌, append-nil}
 use mathlib.Core.Logic.{◌⊎◌, inl, inr}
 use Prim.Native.Nat.{ℕ, zero, suc, ◌+◌, ◌-◌, ◌*◌, ◌≤◌, ◌<◌}
 use native.Mathlib.Nat.{eq-or-lt_of_le, le_of_suc-le-suc}
 use native.Mathlib.Numerals.{add-one}
 use native.Mathlib.Omega.{arith}
-use lib.ListN.{length, get_or, set, take, replicate, length-set}
-use lib.Seq.{get_or-set_same, get_or-set_other, take-length}
+use lib.Dec.{ltb}
+use lib.ListN.{length, get_or, set, take, replicate, length-set, length-append, length-replicate, get_or-replicate, get_or-append}
+use lib.Seq.{get_or-set_same, get_or-set_other, set-get_or, get_or-append-add, get_or-take, length-take-le, take-length, ext_get_or}
 use lib.Ieee.{Float, nan}
+use borrow.Author.Tests.{lt-ltb, le-ltb}
+use Rattle.num_float.proofs.Tests.{lt_or_ge}
 use borrow.Rule.Slice.PartMut.{put_mid, post_of}
 use Rattle.std.proofs.lemmas.Grind.{common_steps}
 use Rattle.list_laws.proofs.Outside.{outside_none, outside_then, outside_wide}
@@ -40,7 +44,56 @@ painted_at g (suc n) l k d h low = go (λ p. painted_at g n l k d (omega (arith,
     go below (inl e) = rw e (get_or-set_same (painted g n l) n (g n) d (omega (arith, painted_length g n l, h)))
     go below (inr p) = get_or-set_other (painted g n l) n k (g n) d (λ e. omega (arith, e, p)) ∙ below p
 
+-- places that are written as they are
+painted_own : {X : Type 0} (g : ℕ → X) (n : ℕ) (l : List X) (d : X) → ((k : ℕ) → k < n → g k ≡ get_or l k d) → painted g n l ≡ l
+unfolding painted
+painted_own g zero l d same = refl
+painted_own g (suc n) l d same =
+    ap (λ m. set m n (g n)) (painted_own g n l d (λ k low. same k (omega (arith, low)))) ∙ ap (set l n) (same n (omega arith)) ∙ set-get_or l n d
+
 -- ---- rows of which those from number a on are zeroed
+module _ (a : ℕ) (rows : List FaultRow) where
+  -- row k then
+  abbrev left : ℕ → FaultRow
+  left k = cond (ltb k a) (row_in rows k) zero_row_of
+
+  pub wiped_own : painted (λ (k : ℕ). cond (ltb k a) (row_in rows k) zero_row_of) a rows ≡ rows
+  wiped_own = painted_own left a rows zero_row_of (λ k low. simp (lt-ltb k a low))
+
+  pub wiped_zero : (k : ℕ) → a ≤ k → zero_row_of ≡ cond (ltb k a) (row_in rows k) zero_row_of
+  wiped_zero k high = simp (le-ltb k a high)
+
+  pub wiped_whole : a ≤ length rows → painted (λ (k : ℕ). cond (ltb k a) (row_in rows k) zero_row_of) (length rows) rows ≡ wiped a rows
+  unfolding wiped
+  wiped_whole low =
+      ext_get_or zero_row_of (painted left (length rows) rows) whole (long ∙ sym whole_long)
+      (λ k h. painted_at left (length rows) rows k zero_row_of (omega arith) (omega (arith, h, long)) ∙ go k (omega (arith, h, long)) (lt_or_ge k a))
+    where
+      whole : List FaultRow
+      whole = take a rows ++ replicate (length rows - a) zero_row_of
+
+      long : length (painted left (length rows) rows) ≡ length rows
+      long = painted_length left (length rows) rows
+
+      first_long : length (take a rows) ≡ a
+      first_long = length-take-le a rows low
+
+      rest_long : length (replicate (length rows - a) zero_row_of) ≡ length rows - a
+      rest_long = length-replicate (length rows - a) zero_row_of
+
+      whole_long : length whole ≡ length rows
+      whole_long = length-append (take a rows) (replicate (length rows - a) zero_row_of) ∙ omega (arith, first_long, rest_long, low)
+
+      go : (k : ℕ) → k < length rows → (k < a) ⊎ (a ≤ k) → left k ≡ get_or whole k zero_row_of
+      go k h (inl below) =
+          ap (λ (b : Bool). cond b (row_in rows k) zero_row_of) (lt-ltb k a below) ∙ sym (get_or-take a rows k zero_row_of below)
+          ∙ sym (get_or-append (take a rows) (replicate (length rows - a) zero_row_of) zero_row_of k (omega (arith, below, first_long)))
+      go k h (inr above) =
+          let at : length (take a rows) + (k - a) ≡ k = omega (arith, above, first_long) in
+          ap (λ (b : Bool). cond b (row_in rows k) zero_row_of) (le-ltb k a above)
+          ∙ sym (get_or-replicate (length rows - a) (k - a) zero_row_of zero_row_of (omega (arith, h, above)))
+          ∙ sym (get_or-append-add (take a rows) (replicate (length rows - a) zero_row_of) (k - a) zero_row_of) ∙ ap (λ (j : ℕ). get_or whole j zero_row_of) at
+
 pub wiped_filled : (a : ℕ) (rows filled : List FaultRow) → a ≤ length rows → filled ≡ replicate (length rows - a) zero_row_of →
     put_mid a (length rows - a) rows filled ≡ wiped a rows
 unfolding wiped

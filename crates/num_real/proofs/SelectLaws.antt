@@ -1,20 +1,24 @@
 -- Laws of `min_of`, `max_of` and `abs_of`.
-use mathlib.Core.Path.{◌≡◌, refl, sym}
+use mathlib.Core.Path.{◌≡◌, refl, sym, ap, ◌∙◌}
 use mathlib.Core.Logic.{◌⊎◌, inl, inr}
-use mathlib.Core.Bool.{Bool, true, false, ◌||◌, cond}
-use Prim.Native.Nat.{ℕ, zero-le, ◌*◌}
-use native.Mathlib.Nat.{le_trans, le_of_eq, zero-mul}
-use lib.Dec.{lit<}
-use lib.Ieee.{Float, nan, inf, fin, up, down, lt, le, neg, is_nan}
-use lib.Ieee.Fits.{down_pos}
+use mathlib.Core.Bool.{Bool, true, false, not, ◌||◌, ◌&&◌, beq, cond, true≢false}
+use Prim.Native.Nat.{ℕ, zero, suc, zero-le, suc-le-suc, ◌*◌, ◌^◌, ◌<◌}
+use native.Mathlib.Nat.{le_trans, le_of_eq, zero-mul, mul-one, one-mul, mul-pos}
+use native.Mathlib.Omega.{arith}
+use lib.Dec.{T, eqb, eqb→eq, lit<}
+use lib.Pow.{pow-lt}
+use lib.IntN.{ℤ, pos, negsuc}
+use lib.Ieee.{Float, nan, inf, fin, binary64, up, down, lt, eq, le, neg, is_nan, fits}
+use lib.Ieee.Fits.{up_pos, down_pos}
 use lib.Ieee.Scale.{finite}
 use lib.Ieee.Positive.{num, den}
+use borrow.Author.Tests.{eqb-true, eq-eqb}
 use Rattle.num_float.specs.Within.{Within, Beyond}
 use Rattle.num_float.proofs.Order.{lt_le, le_refl_number, not_lt_le}
 use Rattle.num_float.proofs.Rounding.{le_values}
 use Rattle.num_float.proofs.Within.{cond_within}
 use Rattle.num_real.specs.Select.{min_of, max_of, abs_of}
-use Rattle.num_real.proofs.CompareLaws.{zero_float}
+use Rattle.num_real.proofs.CompareLaws.{zero_float, zero_size, negative_sign, minus_zero}
 
 -- ---- the choice between a and b by a test, for `min` and `max` alike
 module _ (a b : Float) (test : Bool) where
@@ -91,6 +95,46 @@ min_within a b c p q = cond_within (is_nan a || lt b a) q p
 pub max_within : (a b : Float) (c : ℕ) → Within a c → Within b c → Within (max_of a b) c
 unfolding max_of
 max_within a b c p q = cond_within (is_nan a || lt a b) q p
+
+-- ---- the sign cleared, by the two tests of `abs`
+pub abs_negative : (x : Float) → lt x zero_float ≡ true → neg x ≡ abs_of x
+unfolding lt neg abs_of
+abs_negative nan h = absurd (true≢false (sym h))
+abs_negative (inf true) h = refl
+abs_negative (inf false) h = absurd (true≢false (sym h))
+abs_negative (fin s m e) h = ap (λ (t : Bool). fin (not t) m e) (negative_sign s m e h)
+
+-- a zero that fits is written with the exponent 0
+zero_exponent : (e : ℤ) → up e * down e ≡ 1 → e ≡ pos 0
+zero_exponent (pos zero) h = refl
+zero_exponent (pos (suc k)) h = absurd (omega (arith, mul-one (2 ^ suc k), pow-lt {i = 0} {j = suc k} (omega arith)))
+zero_exponent (negsuc k) h = absurd (omega (arith, one-mul (2 ^ suc k), pow-lt {i = 0} {j = suc k} (omega arith)))
+
+pub abs_zero : (x : Float) → T (fits binary64 x) → eq x zero_float ≡ true → zero_float ≡ abs_of x
+unfolding eq fits abs_of
+abs_zero nan f h = absurd (true≢false (sym h))
+abs_zero (inf s) f h = absurd (true≢false (sym h))
+abs_zero (fin s zero e) f h = ap (fin false 0) (sym (zero_exponent e (eqb→eq (up e * down e) 1 f)))
+abs_zero (fin s (suc m) e) f h =
+    let a = suc m * up e * 1 in
+    let same : a ≡ 0 * 1 * down e = eqb-true a (0 * 1 * down e) (and_left (eqb a (0 * 1 * down e)) (beq s false || eqb a 0) h) in
+    let above : 0 < suc m * up e = mul-pos (suc-le-suc zero-le) (up_pos e) in
+    absurd (omega (arith, zero_size e))
+  where
+    and_left : (p q : Bool) → p && q ≡ true → p ≡ true
+    and_left true q h = refl
+    and_left false q h = h
+
+pub abs_positive : (x : Float) → lt x zero_float ≡ false → eq x zero_float ≡ false → x ≡ abs_of x
+unfolding lt eq abs_of
+abs_positive nan h k = refl
+abs_positive (inf true) h k = absurd (true≢false h)
+abs_positive (inf false) h k = refl
+abs_positive (fin true m e) h k =
+    let a = m * up e * 1 in
+    let none : m * up e ≡ 0 = minus_zero m e h in
+    absurd (true≢false (sym (rw (eq-eqb a (0 * 1 * down e) (omega (arith, zero_size e)), eq-eqb a 0 (omega arith))) ∙ k))
+abs_positive (fin false m e) h k = refl
 
 -- ---- what `abs` keeps
 pub abs_num : (x : Float) → num (abs_of x) ≡ num x

@@ -196,7 +196,7 @@ group_not [] h = refl
 group_not (n ∷ []) h = rw h
 group_not (n ∷ m ∷ fs) h = refl
 
-group_large : (fs : List (List ℕ)) (n : ℕ) → WholeTold (first fs) n → 2 ^ 32 ≤ n → Line.Other ≡ line_of (group_form fs)
+pub group_large : (fs : List (List ℕ)) (n : ℕ) → WholeTold (first fs) n → 2 ^ 32 ≤ n → Line.Other ≡ line_of (group_form fs)
 unfolding first group_form line_of capped
 group_large [] n t h = refl
 group_large (f ∷ []) n t h =
@@ -204,7 +204,7 @@ group_large (f ∷ []) n t h =
     rw (and_last (is_whole f) (ltb (value_of f) (2 ^ 32)) (le-ltb (value_of f) (2 ^ 32) z))
 group_large (f ∷ m ∷ fs) n t h = refl
 
-group_is : (fs : List (List ℕ)) (n : ℕ) → WholeTold (first fs) n → others fs ≡ [] → n < 2 ^ 32 → Line.Group n ≡ line_of (group_form fs)
+pub group_is : (fs : List (List ℕ)) (n : ℕ) → WholeTold (first fs) n → others fs ≡ [] → n < 2 ^ 32 → Line.Group n ≡ line_of (group_form fs)
 unfolding first others group_form line_of capped
 group_is [] n t e h = absurd (contrary (is_whole []) t.good empty_whole)
 group_is (f ∷ []) n t e h =

@@ -49,7 +49,7 @@ no_numbers b (group i) k h = refl
 no_numbers b skipped k h = refl
 no_numbers b other k h = refl
 
-read_plain : (l ns : List ℕ) (used : ℕ) (r : Line) → (get_or l 0 0 ≡ 102 → ⊥) → r ≡ line_of (form_of l) → Read (form_of l) ns used ns r
+pub read_plain : (l ns : List ℕ) (used : ℕ) (r : Line) → (get_or l 0 0 ≡ 102 → ⊥) → r ≡ line_of (form_of l) → Read (form_of l) ns used ns r
 read_plain l ns used r h e = record {
   line = e;
   same_length = refl;

@@ -31,7 +31,7 @@ past_end xs n (v ∷ l) g h k =
     past_end xs (suc n) l g h (omega arith) ∙ sym (ap (λ (t : List Float). sets t (suc n) (map g l)) (set_out xs n (g v) (omega arith)))
 
 -- a line that is no vertex, or no face
-no_vertex : (l : Line) → ((v : Vec3) → l ≡ Line.Vertex v → ⊥) → vertex_in l ≡ []
+pub no_vertex : (l : Line) → ((v : Vec3) → l ≡ Line.Vertex v → ⊥) → vertex_in l ≡ []
 unfolding vertex_in
 no_vertex (Line.Vertex v) h = absurd (h v refl)
 no_vertex (Line.Face c) h = refl
@@ -39,11 +39,11 @@ no_vertex (Line.Group i) h = refl
 no_vertex Line.Skipped h = refl
 no_vertex Line.Other h = refl
 
-record NoFace (i : ℕ) (l : Line) : Type 0 where
-  no_index : index_in i l ≡ []
-  no_count : count_in l ≡ []
+pub record NoFace (i : ℕ) (l : Line) : Type 0 where
+  pub no_index : index_in i l ≡ []
+  pub no_count : count_in l ≡ []
 
-no_face : (i : ℕ) (l : Line) → ((c : Corners) → l ≡ Line.Face c → ⊥) → NoFace i l
+pub no_face : (i : ℕ) (l : Line) → ((c : Corners) → l ≡ Line.Face c → ⊥) → NoFace i l
 unfolding index_in count_in
 no_face i (Line.Vertex v) h = record { no_index = refl; no_count = refl }
 no_face i (Line.Face c) h = absurd (h c refl)

@@ -14,7 +14,7 @@ use Rattle.file_field.specs.Field.{vec_at_of}
 use Rattle.file_part.specs.Layout.{vertex_count_of}
 use Rattle.file_part.specs.Part.{Part, part_of}
 use Rattle.file_part.proofs.PartLaws.{part_vertices, part_vertex}
-use Rattle.file_ok.proofs.ReadableLaws.{readable_vertex, readable_vertex_room}
+use Rattle.file_ok.proofs.ReadableLaws.{readable_vertex, readable_vertex_room, readable_counts}
 use Rattle.solid_faces.specs.Faces.{Checked}
 use Rattle.solid_faces.proofs.BodyLaws.{readable_long, checked_readable}
 use Rattle.round_frame.specs.declared.extent.Extent.{Extent}
@@ -30,6 +30,9 @@ pub vertex_room : (s : List ℕ) (n i : ℕ) → Checked s → n ≡ vertex_coun
 vertex_room s n i h e l =
     let low : i < vertex_count_of s = omega (arith, e, l) in
     (readable_vertex_room s (checked_readable s h) i low, readable_vertex s (checked_readable s h) i low)
+
+pub few_vertices : (s : List ℕ) (n : ℕ) → Checked s → n ≡ vertex_count_of s → n ≤ 16384
+few_vertices s n h e = omega (arith, e, (readable_counts s (checked_readable s h)).0)
 
 -- ---- the loop
 pub heights_none : (t : Part) (up : Vec3) → record { lo = of_bits binary64 0x7ff0_0000_0000_0000; hi = of_bits binary64 0xfff0_0000_0000_0000 } ≡ heights_to t up 0

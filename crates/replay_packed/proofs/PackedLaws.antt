@@ -2,9 +2,9 @@
 use mathlib.Core.Path.{◌≡◌, refl, sym, ap, ◌∙◌}
 use mathlib.Core.Bool.{Bool, true, false, not, ◌&&◌, cond}
 use mathlib.Core.List.{List, [], ◌∷◌, ◌++◌, append-nil}
-use Prim.Native.Nat.{ℕ, suc, ◌+◌, ◌≤◌, ◌<◌, ◌^◌}
+use Prim.Native.Nat.{ℕ, zero, suc, ◌+◌, ◌≤◌, ◌<◌, ◌^◌}
 use native.Mathlib.Numerals.{add-one}
-use lib.Dec.{eqb}
+use lib.Dec.{eqb, eqb-suc-zero}
 use lib.ListN.{length, drop, get_or, replicate, drop_of_length-le}
 use lib.Seq.{drop-cons}
 use Rattle.num_text.specs.Put.{Put}
@@ -14,8 +14,15 @@ use Rattle.num_text.proofs.TextLaws.{adds_none, adds_same, adds_then}
 use Rattle.replay_packed.specs.Packed.{unpacked}
 
 -- ---- a byte alone
+pub alone_count : (z : Bool) (b : ℕ) → z ≡ true → replicate b 0 ≡ unpacked z (b ∷ [])
+alone_count z b e = rw e (sym (append-nil (replicate b 0)))
+
 pub alone_zero : (z : Bool) (b : ℕ) → z ≡ false → b ≡ 0 → [] ≡ unpacked z (b ∷ [])
 alone_zero z b e h = rw (e, h)
+
+pub alone_other : (z : Bool) (b : ℕ) → z ≡ false → (b ≡ 0 → ⊥) → b ∷ [] ≡ unpacked z (b ∷ [])
+alone_other z zero e h = absurd (h refl)
+alone_other z (suc b) e h = rw (e, eqb-suc-zero b)
 
 -- ---- a byte, then the others
 unpacked_cons : (z : Bool) (b : ℕ) (bs : List ℕ) → unpacked z (b ∷ bs) ≡ unpacked z (b ∷ []) ++ unpacked (not z && eqb b 0) bs

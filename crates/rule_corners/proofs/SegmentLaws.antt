@@ -1,17 +1,21 @@
 -- One segment, in the words of what the code calls.
 use mathlib.Core.Path.{◌≡◌, refl, sym, ap, ◌∙◌}
 use mathlib.Core.Bool.{Bool, true, false, not, ◌&&◌}
+use mathlib.Core.Logic.{◌⊎◌, inl, inr}
 use mathlib.Core.List.{List}
 use Prim.Native.Nat.{ℕ, ◌+◌, ◌-◌, ◌*◌, ◌≤◌, ◌<◌}
 use native.Mathlib.Omega.{arith}
 use lib.Dec.{eqb, ltb, leb}
 use lib.Ieee.{Float, lt}
+use denote.Enum.Declared.{tag_of}
 use borrow.Author.Tests.{ltb-true, leb-true}
 use Rattle.num_float.proofs.Tests.{and_left, and_right, and_false_left, and_false_right}
 use Rattle.math.specs.declared.Vec3.{Vec3}
 use Rattle.math.specs.Vector.{plus, minus, times, dot_of, length_of}
 use Rattle.file_field.specs.Field.{vec_at_of}
 use Rattle.file_part.specs.declared.read.SurfaceKind.{SurfaceKind}
+use Rattle.file_part.specs.declared.read.SurfaceKind.TheVariants.{Plane, Cylinder, Revolved, Other}
+use Rattle.file_part.specs.contracts.read.SurfaceKind as surface-kind
 use Rattle.file_part.specs.Layout.{vertex_count_of, polygon_count_of, entry_at}
 use Rattle.file_part.specs.Part.{Part, surface_at, part_of}
 use Rattle.file_part.proofs.PartLaws.{part_polygons, part_vertex, part_surface}
@@ -30,6 +34,29 @@ use Rattle.rule_corners.specs.Corners.{ninety_nine, polygon_beyond, is_plane, on
 use Rattle.rule_corners.specs.Work.{SidesOf, FoundIs}
 
 -- ---- the two polygons
+-- the place of a surface among the variants, which is what a `match` knows; a plane's is 0
+abbrev place : SurfaceKind → ℕ
+place x = tag_of surface-kind.the_type x
+
+pub plane_is : (x : SurfaceKind) → place x ≡ 0 → true ≡ is_plane x
+unfolding is_plane
+plane_is Plane h = refl
+plane_is (Cylinder o d r) h = absurd (omega (arith, h))
+plane_is (Revolved o d) h = absurd (omega (arith, h))
+plane_is Other h = absurd (omega (arith, h))
+
+none_of : (k : ℕ) → (k ≡ 1) ⊎ ((k ≡ 2) ⊎ (k ≡ 3)) → k ≡ 0 → ⊥
+none_of k (inl e) h = omega (arith, e, h)
+none_of k (inr (inl e)) h = omega (arith, e, h)
+none_of k (inr (inr e)) h = omega (arith, e, h)
+
+pub other_is : (x : SurfaceKind) → (place x ≡ 1) ⊎ ((place x ≡ 2) ⊎ (place x ≡ 3)) → false ≡ is_plane x
+unfolding is_plane
+other_is Plane h = absurd (none_of _ h refl)
+other_is (Cylinder o d r) h = refl
+other_is (Revolved o d) h = refl
+other_is Other h = refl
+
 pub surface_is : (s : List ℕ) (v p at : ℕ) (x : SurfaceKind) (b : Bool) → v ≡ vertex_count_of s → at ≡ entry_at v p → x ≡ surface_at s at → b ≡ is_plane x → b ≡ on_plane (part_of s) p
 unfolding on_plane
 surface_is s v p at x b ev ea ex eb = eb ∙ ap is_plane (ex ∙ ap (surface_at s) (ea ∙ ap (λ (k : ℕ). entry_at k p) ev) ∙ sym (part_surface s p))

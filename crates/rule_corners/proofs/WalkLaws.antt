@@ -101,6 +101,9 @@ module _ (s : List ℕ) (at : Regions) (words : List ℕ) (reals : List Float) (
   abbrev all : ℕ
   all = corner_count u
 
+  pub order_inside : at.chain ≤ length words
+  order_inside = omega (arith, o.standing.placed.laid, o.standing.words_room)
+
   pub order_long : all ≤ length (corner_order at words)
   order_long = o.sorted.grouped.inside
 

@@ -24,7 +24,7 @@ use Rattle.round_all.specs.Round.{round_of}
 use Rattle.measure_sizes.specs.Reading.{ReadingBounds}
 use Rattle.sheet_bends.specs.Bends.{outside_of, is_bend}
 use Rattle.std.specs.Prelude.{Some, None}
-use Rattle.sheet_bends.specs.Kept.{bend_of}
+use Rattle.sheet_bends.specs.Kept.{bend_of, bend_cell}
 use Rattle.fault_row.specs.declared.flaw.Flaw.{Flaw}
 use Rattle.fault_row.specs.declared.flaw.Flaw.TheVariants.{ShortFlange}
 use Rattle.fault_row.specs.Row.{RowPut}
@@ -35,7 +35,7 @@ use Rattle.fault_text.specs.Good.{Good}
 use Rattle.rule_flanges.specs.declared.legs.Leg.{Leg}
 use Rattle.rule_flanges.specs.Flanges.{legs_of, taken_from, flanges_of, reach_to, reach_of, min_flange, flange_flaw, flange_flaws, bend_flanges, short_flanges}
 use Rattle.rule_flanges.specs.Work.{leg_at, legs_in, LegThere, LegsThere, LegsTaken, FlangePut}
-use Rattle.sheet_bends.proofs.BendLaws.{no_bend, some_bend}
+use Rattle.sheet_bends.proofs.BendLaws.{no_bend, some_bend, bend_is}
 use Rattle.rule_flanges.proofs.LegLaws.{legs_none, legs_more}
 use Rattle.rule_flanges.proofs.SizeLaws.{reach_nonneg, reach_accepted, least_accepted}
 
@@ -144,6 +144,12 @@ module _ (t : Part) (thick : Float) where
       let is = (some_bend t thick f g e).0 in
       let last = flaws_same (ap (flange_flaws t thick f) (taken_flanges f most n legs legs' p) ∙ sym (a_bend f is)) q in
       flaws_same (sym (bends_suc f)) (flaws_then before last)
+
+  -- in the words of `flanges`
+  pub bend_there : (f x : ℕ) → x ≡ bend_cell t thick f → (x ≡ 0 → ⊥) → (is_bend t thick f ≡ true) × (x - 1 ≡ outside_of t thick f)
+  bend_there f x e some =
+      let is = bend_is t thick f x e some in
+      (is.0, omega (arith, is.1))
 
   pub bends_all : (n f : ℕ) → n ≡ faces_of t → f ≤ n → n ≤ f → {from k : ℕ} {c c' : List ℕ} {m m' : List Float} → BendsPut t thick f from c c' m m' k →
       FlawsPut (Good t) from (short_flanges t thick) c c' m m' k

@@ -1,11 +1,11 @@
 -- The laws on the holes of a sheet.
 -- ChoiceLaws: chosen_first, chosen_second     what a test chooses; or_true, or_false
 -- NameLaws: words in a text
---   start_short, start-none, start_differs, start_more, start_end     the loop that compares a word byte by byte
+--   start_is, start_short                                             whether a text begins with a word, as std compares it; not where it is shorter
 --   none_start, none-found, none-more, none-end                       the loop over the places of the text
 --   named_room, named_is, named-none                                  the material's name as a part of the file
 -- NearestLaws: what is nearest to a hole
---   nearer_taken, nearer_left                                         the nearer of two
+--   nearer_left, none_there                                           the nearer of two, and none
 --   PlatesTo, plates_start, plates_more, plates_end                   a tour that marks the flat faces
 --   NearestTo, nearest_start, nearest_more, nearest_end               a tour of the edges of any face; there_below: what is nearest is a face
 --   group_own, group_marked, group_nearer, neighbour_flat, ..         one edge of a flat face, and one neighbour of the hole

@@ -2,12 +2,12 @@
 use mathlib.Core.Path.{◌≡◌, refl, sym, ap, ◌∙◌}
 use mathlib.Core.Bool.{Bool, true, false, ◌&&◌, ◌||◌, cond}
 use mathlib.Core.List.{List, [], ◌∷◌}
-use Prim.Native.Nat.{ℕ, suc, ◌+◌, ◌≤◌, ◌<◌}
+use Prim.Native.Nat.{ℕ, suc, ◌+◌, ◌-◌, ◌≤◌, ◌<◌}
 use native.Mathlib.Numerals.{add-one}
 use native.Mathlib.Omega.{arith}
 use lib.Dec.{eqb}
 use Rattle.std.specs.Cmp.Lexicographic.{pointwise}
-use lib.ListN.{length, take, drop, drop_of_length-le}
+use lib.ListN.{length, take, drop, length-drop, drop_of_length-le}
 use lib.Seq.{drop-cons}
 use Rattle.list_laws.specs.Region.{part}
 use Rattle.file_job.specs.declared.Job.{Job}
@@ -28,6 +28,21 @@ unfolding starts_with
 start_is [] text = refl
 start_is (w ∷ ws) [] = refl
 start_is (w ∷ ws) (b ∷ text) = ap (λ (c : Bool). eqb w b && c) (start_is ws text)
+
+-- it does not where it is shorter
+short : (word text : List ℕ) → length text < length word → starts_with word text ≡ false
+unfolding starts_with
+short [] text h = absurd (omega (arith, h))
+short (w ∷ ws) [] h = refl
+short (w ∷ ws) (b ∷ text) h = go (eqb w b) (short ws text (omega (arith, h)))
+  where
+    go : (c : Bool) → starts_with ws text ≡ false → (c && starts_with ws text) ≡ false
+    go true e = e
+    go false e = refl
+
+pub start_short : (word text : List ℕ) (at : ℕ) → length text - at < length word → false ≡ starts_at word text at
+unfolding starts_at
+start_short word text at h = sym (short word (drop at text) (simp length-drop (h)))
 
 -- ---- whether it has the word in it
 -- it does not start before place `at`

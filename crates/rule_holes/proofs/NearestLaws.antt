@@ -37,7 +37,7 @@ use Rattle.rule_holes.specs.Work.{Plates, NearestThere, NoNearer}
 use Rattle.rule_holes.proofs.ChoiceLaws.{chosen_second, or_true, or_false}
 
 -- ---- the nearer of two
-nearer_left : (n g : Gap) → lt g.gap n.gap ≡ false → Some n ≡ nearer (Some n) g
+pub nearer_left : (n g : Gap) → lt g.gap n.gap ≡ false → Some n ≡ nearer (Some n) g
 unfolding nearer
 nearer_left n g e = chosen_second (Some g) (Some n) refl e
 

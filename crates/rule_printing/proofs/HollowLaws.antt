@@ -1,6 +1,7 @@
 -- The rule on hollows: none, one fault, one body after another.
 use mathlib.Core.Path.{◌≡◌, refl, sym, ap, ◌∙◌, subst}
 use mathlib.Core.Bool.{Bool, true, false, not, cond, true≢false}
+use mathlib.Core.Logic.{◌⊎◌, inl, inr}
 use mathlib.Core.List.{List, [], ◌∷◌}
 use Prim.Native.Nat.{ℕ, ◌+◌, ◌*◌, ◌^◌, ◌≤◌, ◌<◌}
 use native.Mathlib.Numerals.{add-one}
@@ -21,6 +22,9 @@ use Rattle.list_laws.proofs.Regions.{part_place}
 use Rattle.list_groups.specs.Groups.{joined}
 use Rattle.list_groups.proofs.Flat.{joined_suc, joined_none}
 use Rattle.file_job.specs.declared.Job.{Job}
+use Rattle.file_job.specs.declared.Process.{Process}
+use Rattle.file_job.specs.declared.Process.TheVariants.{CncMachining, SheetMetal, Fdm, Sla, Sls}
+use Rattle.file_job.proofs.Places.{place}
 use Rattle.file_part.specs.Part.{Part, part_of}
 use Rattle.solid_faces.specs.Faces.{faces_of, Checked}
 use Rattle.solid_faces.proofs.BodyLaws.{checked_readable}
@@ -39,8 +43,51 @@ use Rattle.fault_row.specs.Flaws.{FlawsPut}
 use Rattle.fault_row.proofs.RowLaws.{row_put_same}
 use Rattle.fault_row.proofs.FlawLaws.{flaws_none, flaws_one, flaws_then, flaws_same}
 use Rattle.print_walls.specs.fault_text.specs.Good.{Good}
-use Rattle.rule_printing.specs.Rules.{is_hollow, is_sls, hollow_flaw, hollows}
+use Rattle.rule_printing.specs.Rules.{is_hollow, is_sls, hollow_flaw, hollows, traps_hollows_of}
 use Rattle.rule_printing.specs.Work.{HollowPut}
+
+-- ---- the process, by its place among the variants
+pub traps_some : (p : Process) → 3 ≤ place p → true ≡ traps_hollows_of p
+unfolding traps_hollows_of
+traps_some CncMachining h = absurd (omega (arith, h))
+traps_some SheetMetal h = absurd (omega (arith, h))
+traps_some Fdm h = absurd (omega (arith, h))
+traps_some Sla h = refl
+traps_some Sls h = refl
+
+pub traps_none : (p : Process) → place p ≤ 2 → false ≡ traps_hollows_of p
+unfolding traps_hollows_of
+traps_none CncMachining h = refl
+traps_none SheetMetal h = refl
+traps_none Fdm h = refl
+traps_none Sla h = absurd (omega (arith, h))
+traps_none Sls h = absurd (omega (arith, h))
+
+pub sls_some : (p : Process) → 4 ≤ place p → true ≡ is_sls p
+unfolding is_sls
+sls_some CncMachining h = absurd (omega (arith, h))
+sls_some SheetMetal h = absurd (omega (arith, h))
+sls_some Fdm h = absurd (omega (arith, h))
+sls_some Sla h = absurd (omega (arith, h))
+sls_some Sls h = refl
+
+pub sls_none : (p : Process) → place p ≤ 3 → false ≡ is_sls p
+unfolding is_sls
+sls_none CncMachining h = refl
+sls_none SheetMetal h = refl
+sls_none Fdm h = refl
+sls_none Sla h = refl
+sls_none Sls h = absurd (omega (arith, h))
+
+pub from_place : (k n : ℕ) → k ≡ n → n ≤ k
+from_place k n e = omega (arith, e)
+
+-- one of the arms `0 | 1 | 2 | 3`
+pub first_four : (k : ℕ) → (k ≡ 0) ⊎ ((k ≡ 1) ⊎ ((k ≡ 2) ⊎ (k ≡ 3))) → k ≤ 3
+first_four k (inl e) = omega (arith, e)
+first_four k (inr (inl e)) = omega (arith, e)
+first_four k (inr (inr (inl e))) = omega (arith, e)
+first_four k (inr (inr (inr e))) = omega (arith, e)
 
 -- ---- a negative volume, without its sign, is a number that is printed
 small_negative : lt (neg e_9) plus_zero ≡ true

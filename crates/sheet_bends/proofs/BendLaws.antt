@@ -1,8 +1,8 @@
 -- What a bend is: its two faces, its cell, and all that stands in the scratch once the bends are put.
-use mathlib.Core.Path.{◌≡◌, refl, ap}
+use mathlib.Core.Path.{◌≡◌, refl, sym, ap}
 use mathlib.Core.Bool.{Bool, true, false, cond}
 use mathlib.Core.List.{List}
-use Prim.Native.Nat.{ℕ, suc, ◌+◌, ◌-◌, ◌≤◌, ◌<◌}
+use Prim.Native.Nat.{ℕ, zero, suc, ◌+◌, ◌-◌, ◌≤◌, ◌<◌}
 use native.Mathlib.Omega.{arith}
 use lib.Dec.{ltb}
 use lib.Ieee.{Float, nan}
@@ -84,6 +84,27 @@ none_cell t thick f h = rw (no_bend t thick f h)
 pub some_cell : (t : Part) (thick : Float) (f g : ℕ) → Some g ≡ bend_of t thick f → g + 1 ≡ bend_cell t thick f
 unfolding bend_cell
 some_cell t thick f g h = let b = some_bend t thick f g h in rw (b.0) (omega (arith, b.1))
+
+cell_none : (b : Bool) (n : ℕ) → cond b (suc n) 0 ≡ 0 → b ≡ false
+cell_none true n h = absurd (omega (arith, h))
+cell_none false n h = refl
+
+cell_some : (b : Bool) (n g : ℕ) → cond b (suc n) 0 ≡ suc g → (b ≡ true) × (g ≡ n)
+cell_some true n g h = (refl, omega (arith, h))
+cell_some false n g h = absurd (omega (arith, h))
+
+pub bend_none : (t : Part) (thick : Float) (f : ℕ) → bend_cell t thick f ≡ 0 → is_bend t thick f ≡ false
+unfolding bend_cell
+bend_none t thick f h = cell_none (is_bend t thick f) (outside_of t thick f) h
+
+pub bend_some : (t : Part) (thick : Float) (f g : ℕ) → bend_cell t thick f ≡ suc g → (is_bend t thick f ≡ true) × (g ≡ outside_of t thick f)
+unfolding bend_cell
+bend_some t thick f g h = cell_some (is_bend t thick f) (outside_of t thick f) g h
+
+-- the same of a number that was read
+pub bend_is : (t : Part) (thick : Float) (f r : ℕ) → r ≡ bend_cell t thick f → (r ≡ 0 → ⊥) → (is_bend t thick f ≡ true) × (r ≡ suc (outside_of t thick f))
+bend_is t thick f zero e z = absurd (z refl)
+bend_is t thick f (suc g) e z = let b = bend_some t thick f g (sym e) in (b.0, ap suc b.1)
 
 -- a cell that is read, less 1
 read_back : (b : Bool) (n x : ℕ) (r : Option ℕ) → x ≡ cond b (suc n) 0 → SomeIff r (1 ≤ x) (x - 1) → r ≡ cond b (Some n) None

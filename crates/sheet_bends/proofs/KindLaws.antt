@@ -16,7 +16,7 @@ use Rattle.round_all.specs.declared.round.Round.{Round}
 use Rattle.round_all.specs.Round.{is_round, is_concave, is_hole, round_of}
 use Rattle.round_all.specs.Kept.{round_kind}
 use Rattle.sheet_bends.specs.Bends.{is_inside, is_around, is_outside, outside_of, is_bend}
-use Rattle.sheet_bends.specs.Kept.{bend_of}
+use Rattle.sheet_bends.specs.Kept.{bend_of, bend_cell}
 use Rattle.sheet_bends.specs.Work.{outside_found}
 
 -- ---- the kinds
@@ -83,12 +83,12 @@ none_more test g before here i l = go (lt_or_ge i g)
         let same : g ≡ i = omega (arith, l, above) in
         subst (λ (k : ℕ). test k ≡ false) same here
 
-first_outside : (t : Part) (thick : Float) (f n g : ℕ) → n ≡ faces_of t → g < n → ((i : ℕ) → i < g → is_outside t thick f i ≡ false) →
+pub first_outside : (t : Part) (thick : Float) (f n g : ℕ) → n ≡ faces_of t → g < n → ((i : ℕ) → i < g → is_outside t thick f i ≡ false) →
     is_outside t thick f g ≡ true → g ≡ outside_of t thick f
 unfolding outside_of
 first_outside t thick f n g all l none here = sym (lowest_is (faces_of t) (is_outside t thick f) g (omega (arith, l, all)) (λ m. here) none)
 
-no_outside : (t : Part) (thick : Float) (f n g : ℕ) → n ≡ faces_of t → n ≤ g → ((i : ℕ) → i < g → is_outside t thick f i ≡ false) → n ≡ outside_of t thick f
+pub no_outside : (t : Part) (thick : Float) (f n g : ℕ) → n ≡ faces_of t → n ≤ g → ((i : ℕ) → i < g → is_outside t thick f i ≡ false) → n ≡ outside_of t thick f
 unfolding outside_of
 no_outside t thick f n g all l none =
     sym (lowest_is (faces_of t) (is_outside t thick f) n (omega (arith, all)) (λ m. absurd (omega (arith, m, all))) (λ i m. none i (omega (arith, m, l))))
@@ -114,3 +114,16 @@ bend_outer t thick f h = rw (h)
 pub bend_inner : (t : Part) (thick : Float) (f : ℕ) (r : Option ℕ) → is_inside t f ≡ true → r ≡ outside_found t thick f → r ≡ bend_of t thick f
 unfolding bend_of outside_found is_bend
 bend_inner t thick f r h e = e ∙ rw (h)
+
+-- ---- the cell of a face
+pub cell_outer : (t : Part) (thick : Float) (f : ℕ) → is_inside t f ≡ false → 0 ≡ bend_cell t thick f
+unfolding bend_cell is_bend
+cell_outer t thick f h = rw (h)
+
+pub cell_alone : (t : Part) (thick : Float) (f n g : ℕ) → n ≡ faces_of t → is_inside t f ≡ true → g ≡ outside_of t thick f → n ≤ g → 0 ≡ bend_cell t thick f
+unfolding bend_cell is_bend
+cell_alone t thick f n g all h e l = rw (h, le-ltb (outside_of t thick f) (faces_of t) (omega (arith, l, all, e)))
+
+pub cell_bend : (t : Part) (thick : Float) (f n g : ℕ) → n ≡ faces_of t → is_inside t f ≡ true → g ≡ outside_of t thick f → g < n → g + 1 ≡ bend_cell t thick f
+unfolding bend_cell is_bend
+cell_bend t thick f n g all h e l = rw (h, lt-ltb (outside_of t thick f) (faces_of t) (omega (arith, l, all, e))) (omega (arith, e))

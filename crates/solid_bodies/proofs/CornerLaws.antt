@@ -172,6 +172,10 @@ pub owned_all : (s c : List ℕ) (n p : ℕ) → Readable s → n ≡ vertex_cou
 owned_all s c n p h vs ps d v l =
     d v (omega (arith, readable_whole s h, ap (run_start s (vertex_count_of s)) ps, vs, l))
 
+-- both
+pub cornered : (t : Part) (n : ℕ) (c c' : List ℕ) → Owned t n c → Keyed t n n c c' → Cornered t n c'
+cornered t n c c' o k = record { owners = λ v h. subst (λ (q : ℕ). CornerOf t q v) (sym (k.owners v h)) (o v h); keys = k.keys }
+
 -- ---- the runs follow on, so that a vertex belongs to one polygon
 run_before : (s : List ℕ) → Readable s → (p q : ℕ) → q < polygon_count_of s → p < q →
     ((part_of s).polygon p).first + ((part_of s).polygon p).count ≤ ((part_of s).polygon q).first

@@ -417,16 +417,19 @@ pub fill_step : (own : ℕ → Bounds) (boxes boxes₁ boxes₀ : List Float) (w
     i ≤ m →
     length boxes ≡ length boxes₀ → length words ≡ length words₀ → 6 * m ≤ length boxes₀ → 3 * n + 1 ≤ length words₀ → Started words n m →
     Filled own boxes words n m i → Node own boxes words n m (i - 1) b v → boxes₁ ≡ put_box boxes (i - 1) b → words₁ ≡ set words (2 * n + 1 + (i - 1)) v →
-    (length boxes₁ ≡ length boxes₀) × ((length words₁ ≡ length words₀) × (Started words₁ n m × Filled own boxes₁ words₁ n m (i - 1)))
+    (i - 1 ≤ m) × ((length boxes₁ ≡ length boxes₀) × ((length words₁ ≡ length words₀) × (Started words₁ n m × Filled own boxes₁ words₁ n m (i - 1))))
 fill_step own boxes boxes₁ boxes₀ words words₁ words₀ n m i b v l h eb ew R Q M F w e f = (
-  ap length e ∙ put_length boxes (i - 1) b ∙ eb,
+  omega (arith, h),
   (
-    ap length f ∙ simp length-set ew,
+    ap length e ∙ put_length boxes (i - 1) b ∙ eb,
     (
-      subst (λ (k : List ℕ). Started k n m) (sym f) (started_kept words n (i - 1) v m M),
-      rw (e, f)
-          (filled_more words n (i - 1) v own boxes m b (omega (arith, eb, R, h, l)) (omega (arith, ew, Q, h, l, M.few)) M (omega (arith, l, h)) w
-          (filled_back own boxes words n m i l F)),
+      ap length f ∙ simp length-set ew,
+      (
+        subst (λ (k : List ℕ). Started k n m) (sym f) (started_kept words n (i - 1) v m M),
+        rw (e, f)
+            (filled_more words n (i - 1) v own boxes m b (omega (arith, eb, R, h, l)) (omega (arith, ew, Q, h, l, M.few)) M (omega (arith, l, h)) w
+            (filled_back own boxes words n m i l F)),
+      ),
     ),
   ),
 )

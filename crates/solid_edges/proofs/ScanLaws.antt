@@ -98,11 +98,14 @@ module _ {file sides faces : List ℕ} (lent : Lent file sides faces) (s : ℕ) 
   pub end_in : (r : ℕ) → r ≡ get_or sides (s * 3) 0 → r < vertex_count_of file
   end_in r e = omega (arith, end_is r e, end_below file (lent_readable lent) s low)
 
-  pub owner_is : (p : ℕ) → p ≡ get_or sides (s * 3 + 1) 0 → p ≡ owner_of t s
-  owner_is p e = e ∙ lent.shared.owners s side_in
+  pub owner_same : (p : ℕ) → p ≡ get_or sides (s * 3 + 1) 0 → p ≡ owner_of t s
+  owner_same p e = e ∙ lent.shared.owners s side_in
 
   pub owner_in : (p : ℕ) → p ≡ get_or sides (s * 3 + 1) 0 → p < polygon_count_of file
-  owner_in p e = omega (arith, owner_is p e, owner_below file (lent_readable lent) s low)
+  owner_in p e = omega (arith, owner_same p e, owner_below file (lent_readable lent) s low)
+
+  pub owner_is : (p : ℕ) → p ≡ get_or sides (s * 3 + 1) 0 → (p ≡ owner_of t s) × (p < polygon_count_of file)
+  owner_is p e = (owner_same p e, owner_in p e)
 
   owner_known : (p : ℕ) → p ≡ owner_of t s → p < t.polygons
   owner_known p e = omega (arith, e, owner_below file (lent_readable lent) s low, part_polygons file)

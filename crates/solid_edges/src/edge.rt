@@ -28,7 +28,7 @@ pub fn pair_at(file: &[u8], sides: &[u32], faces: &[u32], s: usize) -> usize
 }
 
 // The polygon of side s.
-#[tactic(auto, using(crate::proofs::ScanLaws::few_vertices, crate::proofs::ScanLaws::side_room, crate::proofs::ScanLaws::owner_is, crate::proofs::ScanLaws::owner_in))]
+#[tactic(auto, using(crate::proofs::ScanLaws::few_vertices, crate::proofs::ScanLaws::side_room, crate::proofs::ScanLaws::owner_same, crate::proofs::ScanLaws::owner_in))]
 pub fn owner_at(file: &[u8], sides: &[u32], faces: &[u32], s: usize) -> usize
     requires fact_1 { Lent file.now sides.now faces.now }
     requires fact_2 { s < vertex_count_of file.now }

@@ -98,9 +98,11 @@ module _ (l : List Float) (p : ℕ) (x : Plane) where
       rw (put_run, first, o 1 (lit< tt), o 2 (lit< tt), o 3 (lit< tt))
 
 pub planes_more : (t : Part) (p : ℕ) (l l' : List Float) (x : Plane) → 4 * p + 4 ≤ length l → x ≡ polygon_plane t p → l' ≡ put_plane l p x → KeptPlanes t p l →
-    KeptPlanes t (p + 1) l'
-planes_more t p l l' x room e put h =
-    record { each = λ q low. ap (λ (k : List Float). plane_at_of k q) put ∙ go q low (lt_or_ge q p); long = omega (arith, room, same) }
+    KeptPlanes t (p + 1) l' × (length l' ≡ length l)
+planes_more t p l l' x room e put h = (
+  record { each = λ q low. ap (λ (k : List Float). plane_at_of k q) put ∙ go q low (lt_or_ge q p); long = omega (arith, room, same) },
+  same,
+)
   where
     same : length l' ≡ length l
     same = ap length put ∙ put_length l p x

@@ -14,7 +14,6 @@
 --   checked_readable, checked_flat, checked_faces       none of 1 to 7, no flat polygon, at most 1,024 faces
 --   three_vertices          three vertices for each polygon
 --   checked_number, number_room                         a face's number is below 1,024, and below a length that holds all faces
---   is_readable, is_checked                             from the number of the verdict
 --   readable_long, entry_room, run-room, polygons_are   room in the file, in the words of the functions that read it
 --   run_flat, run_plane, run_area, face_is              a polygon of the part, in the same words
 -- FirstLaws, TableLaws, KeptLaws: the steps of the functions here

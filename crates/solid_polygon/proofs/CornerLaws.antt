@@ -2,14 +2,18 @@
 use mathlib.Core.Path.{◌≡◌, refl, sym, ap, ◌∙◌, subst}
 use mathlib.Core.Bool.{true, false}
 use mathlib.Core.List.{List}
-use Prim.Native.Nat.{ℕ, ◌+◌, ◌-◌, ◌*◌, ◌≤◌, ◌<◌}
+use Prim.Native.Nat.{ℕ, ◌+◌, ◌-◌, ◌*◌, ◌^◌, ◌≤◌, ◌<◌}
 use native.Mathlib.Omega.{arith}
 use native.Mathlib.Numerals.{add-one}
 use native.Mathlib.Nat.{le_antisymm, add-zero}
+use native.Mathlib.Nat as nat
+use lib.Dec.{T, lit≤}
 use lib.ListN.{length}
-use borrow.Author.Tests.{eq-eqb, ne_eqb}
-use lib.Ieee.{Float, binary64, add, mul, le, lt, eq, of_bits, of_fields, odd}
+use lib.IntN.{pos}
+use borrow.Author.Tests.{eq-eqb, ne_eqb, le-leb}
+use lib.Ieee.{Float, binary64, add, mul, le, lt, eq, of_bits, of_fields, odd, in_float}
 use Rattle.num_float.specs.Sign.{NonNeg}
+use Rattle.num_float.proofs.Tests.{holds}
 use Rattle.num_float.proofs.Order.{le_trans, le_not_lt}
 use Rattle.num_root.specs.Root.{root}
 use Rattle.num_norm.proofs.RootOrder.{root_mono}
@@ -32,6 +36,9 @@ unfolding after
 after_next n k e = rw (ne_eqb _ _ e)
 
 -- ---- the first corners of a run
+pub fewer : (s : List ℕ) (first n m : ℕ) → m ≤ n → Corners s first n → Corners s first m
+fewer s first n m l h = record { inside = omega (arith, l, h.inside); each = λ k b. h.each k (omega (arith, l, b)) }
+
 -- what `corner` asks for
 pub readable_corner : (s : List ℕ) (first n k : ℕ) → Corners s first n → k < n → (24 * (first + k) + 24 ≤ length s) × VecWithin (vec_at_of s (24 * (first + k))) 10000
 readable_corner s first n k h l = (omega (arith, l, h.inside), h.each k l)
@@ -123,3 +130,8 @@ unfolding is_flat length_of length_sq_of
 not_flat s first n m q e f h =
     let long : le e_18 (length_sq_of (newell_of (corner_at s first) n)) ≡ true = rw (sym e, sym f) h in
     sym (le_not_lt e_14 _ (le_trans e_14 (root e_18) _ e_14_le (root_mono e_18 _ e_18_up long)))
+
+-- a number of corners as f64
+pub few_cast : (n : ℕ) → n ≤ 64 → T (in_float binary64 (pos n))
+unfolding in_float
+few_cast n h = holds (le-leb n (2 ^ 53) (nat.le_trans h (lit≤ tt)))

@@ -250,3 +250,15 @@ module _ (l h p : Float) where
   pub gap_none : lt zero (sub binary64 l p) ≡ false → lt (sub binary64 h p) zero ≡ false → zero ≡ gap_of l h p
   unfolding gap_of
   gap_none c d = rw (c, d)
+
+pub lesser_taken : (a x : Float) → lt x a ≡ true → x ≡ lesser a x
+lesser_taken a x h = rw h
+
+pub lesser_left : (a x : Float) → lt x a ≡ false → a ≡ lesser a x
+lesser_left a x h = rw h
+
+pub greater_taken : (a x : Float) → lt a x ≡ true → x ≡ greater a x
+greater_taken a x h = rw h
+
+pub greater_left : (a x : Float) → lt a x ≡ false → a ≡ greater a x
+greater_left a x h = rw h

@@ -1,7 +1,7 @@
 -- The laws on the polygons that the rays start from. Other crates cite these:
 -- ShareLaws: how many rays a face gets
 --   share_least, wanted_least, step_least        at least one
---   wanted_is               from areas that were kept
+--   wanted_is               from areas that were kept; step_one, step_more: the two arms of a step
 -- KeptLaws: what the lent slices hold
 --   falling_kept            areas of a part stand negated
 --   ordered_place           the polygon at a place of an order

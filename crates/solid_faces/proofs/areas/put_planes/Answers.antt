@@ -49,4 +49,4 @@ loop-p-preserved c =
     let plane
     = run_plane _ _ _ _ _ _ _ c.vertex_count-vertices.ensures c.entry_at-at.ensures
     c.first_vertex.ensures c.run_length.ensures.fact_1 c.new.ensures in
-    planes_more _ _ _ _ _ room plane c.put_plane.ensures c.loop-p.invariant
+    (planes_more _ _ _ _ _ room plane c.put_plane.ensures c.loop-p.invariant).0
