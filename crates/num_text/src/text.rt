@@ -22,6 +22,42 @@ fn copy(out: &mut [u8], at: usize, s: &[u8])
     }
 }
 
+// One byte at the place `at`, where that lies within the slice. The place after it.
+fn place(out: &mut [u8], at: usize, b: u8) -> usize
+    ensures { Put out.old at (b ∷ []) out.new result }
+{
+    if at < out.len() {
+        out[at] = b;
+        return at + 1;
+    }
+    if at < LAST {
+        return at + 1;
+    }
+    at
+}
+
+// The bytes s from the place `at` on, where some may fall past the end. The place after them, which goes from turn to turn as a number.
+fn clip(out: &mut [u8], at: usize, s: &[u8]) -> usize
+    ensures { Put out.old at s.now out.new result }
+{
+    let mut next = at;
+    for b in s {
+        next = place(out, next, *b);
+    }
+    next
+}
+
+// 16 hexadecimal digits from the place `at` on, the highest first. The place after them.
+fn digits_of_bits(out: &mut [u8], at: usize, bits: u64) -> usize
+    ensures { Put out.old at (hex16 bits) out.new result }
+{
+    let mut next = at;
+    for k in 0..16u64 {
+        next = place(out, next, hex_digit((bits >> (60 - 4 * k)) % 16));
+    }
+    next
+}
+
 // The slice, and where the next byte goes. What would fall past the end is lost, and counted.
 #[derive(Drop)]
 pub struct Text<'a> {
@@ -45,21 +81,7 @@ impl<'a> Text<'a> {
     pub fn put_byte(&mut self, b: u8)
         ensures { Adds self.old (b ∷ []) self.new }
     {
-        if self.at < self.out.len() {
-            self.out[self.at] = b;
-            self.at += 1;
-        } else if self.at < LAST {
-            self.at += 1;
-        }
-    }
-
-    // The same bytes where some may fall past the end.
-    fn clip(&mut self, s: &[u8])
-        ensures { Adds self.old s.now self.new }
-    {
-        for b in s {
-            self.put_byte(*b);
-        }
+        self.at = place(self.out, self.at, b);
     }
 
     // Bytes: a plain copy where all fall within the slice.
@@ -70,7 +92,7 @@ impl<'a> Text<'a> {
             copy(self.out, self.at, s);
             self.at += s.len();
         } else {
-            self.clip(s);
+            self.at = clip(self.out, self.at, s);
         }
     }
 
@@ -88,9 +110,7 @@ impl<'a> Text<'a> {
     pub fn put_hex(&mut self, bits: u64)
         ensures { Adds self.old (hex16 bits) self.new }
     {
-        for k in 0..16u64 {
-            self.put_byte(hex_digit((bits >> (60 - 4 * k)) % 16));
-        }
+        self.at = digits_of_bits(self.out, self.at, bits);
     }
 
     // The point and three digits without the zeros at their end; nothing where all are zero.
